@@ -1,0 +1,13 @@
+pub mod Newest
+pub mod Turns
+pub mod Parts
+pub mod LookUps
+pub mod VersionLists
+pub mod View
+pub mod Folds
+pub mod Computing
+pub mod Maps
+pub mod Opened
+pub mod Denying
+pub mod Rising
+pub mod MapsKept
