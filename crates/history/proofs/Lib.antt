@@ -1,0 +1,14 @@
+pub mod Summaries
+pub mod Facts
+pub mod TimeKept
+pub mod TablesKept
+pub mod TablesGrown
+pub mod OrderKept
+pub mod ReadingKept
+pub mod ConflictMemory
+pub mod Changes
+pub mod Walks
+pub mod Calls
+pub mod Holding
+pub mod Theorem
+pub mod Consequences
