@@ -1,0 +1,5 @@
+pub mod Filled
+pub mod Reading
+pub mod Layouts
+pub mod Strips
+pub mod Meanings

@@ -1,0 +1,4 @@
+pub mod Bodies
+pub mod Arranged
+pub mod Layout
+pub mod Meaning
