@@ -1,0 +1,4 @@
+pub mod Ranks
+pub mod Indexes
+pub mod Calling
+pub mod Shelves

@@ -1,0 +1,3 @@
+pub mod Index
+pub mod Meaning
+pub mod Rank

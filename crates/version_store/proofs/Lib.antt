@@ -1,0 +1,3 @@
+pub mod Ascents
+pub mod Lookups
+pub mod Puts
