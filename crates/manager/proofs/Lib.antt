@@ -1,0 +1,3 @@
+pub mod Seats
+pub mod Taking
+mod Forgetting
