@@ -1,0 +1,6 @@
+pub mod Agreement
+pub mod RowTables
+pub mod Options
+pub mod Putting
+mod HeldKeys
+mod Limits

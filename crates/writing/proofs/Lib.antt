@@ -1,0 +1,2 @@
+pub mod Exits
+mod Adding
