@@ -1,0 +1,8 @@
+run:
+	rt check yophazidu
+	./target/bin/yophazidu
+
+test:
+	rt ci
+
+.PHONY: run test
