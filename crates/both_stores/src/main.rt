@@ -1,5 +1,7 @@
 //! One task on a shelf and on chains, with counts and with price cards. Each store writes down what its calls answered; the program prints it once and says
 //! that both wrote the same, or prints both.
+#![tactic(auto)]
+
 mod task;
 
 use crate::task::run;

@@ -1,4 +1,6 @@
 //! A version store of 64 chains over lent nodes: the records of a key are on the chain of its class, newest version first.
+#![tactic(auto)]
+
 pub mod chains;
 mod clear;
 pub mod memory;

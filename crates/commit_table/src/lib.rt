@@ -1,4 +1,6 @@
 //! What every commit table does: it tells of a transaction's id whether it committed, and at which number, or was aborted.
+#![tactic(auto)]
+
 ghost use Rattle.std.specs.Prelude.{◌≡◌, ℕ, ◌≤◌, List, length};
 ghost use Rattle.model.specs.declared.words.CommitEntry.{CommitEntry};
 ghost use Rattle.model.specs.Maps.{is_there, look_up, remove, Rising};

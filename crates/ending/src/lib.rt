@@ -1,5 +1,7 @@
 //! Abandon, by a client that gives up its transaction, and bury, by a housekeeper, of a transaction that the fence has passed. Each call's contract is one equation: its answer, and the
 //! database that the engine means after it with all that it is lent, are those of the reference step.
+#![tactic(auto)]
+
 ghost use Rattle.std.specs.Prelude.{◌≡◌};
 ghost use Rattle.model.specs.declared.call.Call.TheVariants.{Abandon, Bury};
 ghost use Rattle.model.specs.Step.{step};

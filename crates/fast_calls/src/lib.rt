@@ -1,5 +1,7 @@
 //! The fast calls: one key, no transaction. Each call's contract is one equation: its answer, and the database that the engine means after it with all that it is lent, are those of
 //! the reference step.
+#![tactic(auto)]
+
 ghost use Rattle.std.specs.Prelude.{◌≡◌};
 ghost use Rattle.model.specs.declared.call.Call.TheVariants.{FastRead, FastChange, FastWrite};
 ghost use Rattle.model.specs.Classes.{class_number};

@@ -1,4 +1,6 @@
 //! What every past of the reference database obeys.
+#![tactic(auto)]
+
 ghost use Rattle.history.specs.Consequences.{EntriesWithinRows, Lasting, NumbersOnce, Repeatable};
 ghost use Rattle.history.specs.Honest.{Honest};
 ghost use Rattle.history.specs.Law.{Holds};

@@ -1,4 +1,6 @@
 //! The two managers, each at its seat: the steps that they take, and what they remember of commits.
+#![tactic(auto)]
+
 pub mod conflicts;
 pub mod managers;
 pub mod steps;

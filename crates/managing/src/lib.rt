@@ -1,5 +1,7 @@
 //! Takeover, begin and raise: what moves managers, starts transactions and lifts floor and fence. Each call's contract is one equation: its answer, and the database that the
 //! engine means after it with all that it is lent, are those of the reference step.
+#![tactic(auto)]
+
 ghost use Rattle.std.specs.Prelude.{◌≡◌};
 ghost use Rattle.model.specs.declared.call.Call.TheVariants.{Takeover, Begin, Raise};
 ghost use Rattle.model.specs.Step.{step};

@@ -1,4 +1,6 @@
 //! The vocabulary of the database, and in specs/ the reference database that every call is held to.
+#![tactic(auto)]
+
 pub mod call;
 pub mod laws;
 pub mod refusal;

@@ -1,4 +1,6 @@
 //! Keeps the outcomes of a few transactions on a sheet and on a strip, and prints what both answer and the strip's bytes.
+#![tactic(auto)]
+
 mod both;
 mod text;
 

@@ -1,5 +1,7 @@
 //! Read: a transaction's own write, else what its snapshot holds. The contract is one equation: the answer, and the database that the engine means after it with all that it is lent,
 //! are those of the reference step.
+#![tactic(auto)]
+
 ghost use Rattle.std.specs.Prelude.{◌≡◌};
 ghost use Rattle.model.specs.declared.call.Call.TheVariants.{Read};
 ghost use Rattle.model.specs.Step.{step};

@@ -1,5 +1,7 @@
 //! Longer runs with expected answers, each on both version stores and both commit tables: a line for each run and a total. A departure is printed with its run, its line, what was
 //! expected and what came. A last run has price cards for values.
+#![tactic(auto)]
+
 mod cards;
 mod hosts;
 mod reading;

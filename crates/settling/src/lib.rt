@@ -1,5 +1,7 @@
 //! Settle, which commits, and stamp, which carries the commit number to the records. Each call's contract is one equation: its answer, and the database that the engine means
 //! after it with all that it is lent, are those of the reference step.
+#![tactic(auto)]
+
 ghost use Rattle.std.specs.Prelude.{◌≡◌};
 ghost use Rattle.model.specs.declared.call.Call.TheVariants.{Settle, Stamp};
 ghost use Rattle.model.specs.Maps.{look_up};

@@ -1,5 +1,7 @@
 //! What each call of a shelf and of chains costs at 256, 1,024 and 4,096 records. Without an argument it runs the calls once and prints checksums, which are the same
 //! for both stores; with the argument `time` it repeats them and prints nanoseconds per call, and how they grow from one size to the next.
+#![tactic(auto)]
+
 mod work;
 
 use crate::work::{Measured, blank, measure};

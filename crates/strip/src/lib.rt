@@ -1,4 +1,6 @@
 //! The commit table in lent bytes: a header of 16 bytes, then entries of 24 bytes in order of placing, then zeros.
+#![tactic(auto)]
+
 mod bytes;
 pub mod calls;
 pub mod laws;

@@ -1,4 +1,6 @@
 //! Tests of both commit tables: bytes written out by hand, the largest tables, and the sizes at the limits.
+#![tactic(auto)]
+
 #[cfg(test)]
 mod tests {
     use commit_table::{CommitTable, Placing};

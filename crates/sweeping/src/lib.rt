@@ -1,5 +1,7 @@
 //! Sweep: the versions of a key that nobody needs any more go. The contract is one equation: the answer, and the database that the engine means after it with all that it is lent, are
 //! those of the reference step.
+#![tactic(auto)]
+
 ghost use Rattle.std.specs.Prelude.{◌≡◌};
 ghost use Rattle.model.specs.declared.call.Call.TheVariants.{Sweep};
 ghost use Rattle.model.specs.declared.call.Answer.TheVariants.{Number};

@@ -1,4 +1,6 @@
 //! A table of entries in ascending order of a 64-bit tag, over memory that its user lends.
+#![tactic(auto)]
+
 pub mod calls;
 pub mod moves;
 pub mod search;

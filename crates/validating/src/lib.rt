@@ -1,4 +1,6 @@
 //! Validate: a manager sees that nothing newer was committed at the transaction's keys, and gives it a commit number.
+#![tactic(auto)]
+
 ghost use Rattle.std.specs.Prelude.{◌≡◌, if◌then◌else◌, nat_eq};
 ghost use Rattle.model.specs.declared.call.Call.TheVariants.{Validate};
 ghost use Rattle.model.specs.Step.{step};

@@ -1,4 +1,6 @@
 //! What every version store does.
+#![tactic(auto)]
+
 pub mod full;
 pub mod laws;
 pub mod store;

@@ -1,4 +1,6 @@
 //! Write. The call's contract is one equation: its answer, and the database that the engine means after it with all that it is lent, are those of the reference step.
+#![tactic(auto)]
+
 ghost use Rattle.std.specs.Prelude.{◌≡◌};
 ghost use Rattle.model.specs.declared.call.Call.TheVariants.{Write};
 ghost use Rattle.model.specs.Transactions.{transaction_of};

@@ -1,6 +1,8 @@
 //! One day of a shop: a manager takes over, a transaction is carried through all its phases, another reads what it left, single keys are written fast, a second manager takes
 //! over while a commit is under way, and the housekeeper raises the floor and sweeps. The same calls run on a shelf with a sheet and on chains with a strip, and every
 //! answer is printed.
+#![tactic(auto)]
+
 mod day;
 mod hosts;
 
