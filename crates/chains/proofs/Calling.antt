@@ -41,8 +41,34 @@ module _ {V : Type 0} where
     put_refused e p q a none = let l = counted in sym (put_full (length ns) e (canon ns) (absent_look ns hs F S e.key e.version p q a) (omega arith))
 
     -- the facts that a `Chains` holds, in their order
-    pub ghosts : (length hs ≡ 64) × (HeadIn (length ns) (col chain_of ns) (head_at hs) × (HeadTop (length ns) (col chain_of ns) (col tag_of ns) (head_at hs) × (NextIn (length ns) (col chain_of ns) (col tag_of ns) (col next_of ns) × (NextTop (length ns) (col chain_of ns) (col tag_of ns) (col next_of ns) × (Apart (length ns) (col chain_of ns) (col tag_of ns) × (FreeIn (length ns) F (col chain_of ns) (col spare_of ns) × (FreeOnce F (col spare_of ns) × (Classed (length ns) (col chain_of ns) (col key_of ns) × ((live_count ns + F ≡ length ns) × ((in_order (canon ns) ≡ true) × ((length (canon ns) ≤ length ns) × Unit {0})))))))))))
-    ghosts = (S.wide, (S.linked.head_in, (S.linked.head_top, (S.linked.next_in, (S.linked.next_top, (S.linked.apart, (S.free_in, (S.free_once, (S.classed, (S.total, (ordered (canon ns) (canon_ascends ns), (let c = counted in omega arith, tt))))))))))))
+    pub ghosts : record {
+          wide : length hs ≡ 64;
+          starts : HeadIn (length ns) (col chain_of ns) (head_at hs);
+          greatest : HeadTop (length ns) (col chain_of ns) (col tag_of ns) (head_at hs);
+          steps : NextIn (length ns) (col chain_of ns) (col tag_of ns) (col next_of ns);
+          nearest : NextTop (length ns) (col chain_of ns) (col tag_of ns) (col next_of ns);
+          apart : Apart (length ns) (col chain_of ns) (col tag_of ns);
+          spares : FreeIn (length ns) F (col chain_of ns) (col spare_of ns);
+          once : FreeOnce F (col spare_of ns);
+          classed : Classed (length ns) (col chain_of ns) (col key_of ns);
+          total : live_count ns + F ≡ length ns;
+          sorted : in_order (canon ns) ≡ true;
+          held : length (canon ns) ≤ length ns;
+        }
+    ghosts = record {
+      wide = S.wide;
+      starts = S.linked.head_in;
+      greatest = S.linked.head_top;
+      steps = S.linked.next_in;
+      nearest = S.linked.next_top;
+      apart = S.linked.apart;
+      spares = S.free_in;
+      once = S.free_once;
+      classed = S.classed;
+      total = S.total;
+      sorted = ordered (canon ns) (canon_ascends ns);
+      held = let c = counted in omega arith;
+    }
 
   -- one more node is free
   pub free_more : (ns : List (Node V)) (i : ℕ) (n : Node V) → i < length ns → n.chain ≡ 64 → n.spare ≡ i → AllFree ns i → AllFree (set ns i n) (i + 1)

@@ -10,15 +10,23 @@ use Rattle.shelf.specs.Index.{Inside, Apart, named, source_down, source_up}
 use Rattle.shelf.proofs.Indexes.{named_length, named_set, named_insert, named_remove, down_inside, down_apart, up_inside, up_apart}
 
 module _ {V : Type 0} where
-  -- what a shelf of P places with n records keeps, in the order of its ghost fields
+  -- what a shelf of P places with n records keeps, by the names of its ghost fields
   abbrev pub Kept : List (Record V) → List ℕ → ℕ → ℕ → Type 0
-  Kept rs xs P n = (P ≤ length rs) × ((P ≤ length xs) × ((n ≤ P) × (Inside P xs × (Apart P xs × ((in_order (named rs (take n xs)) ≡ true) × ((length (named rs (take n xs)) ≤ P) × Unit {0}))))))
+  Kept rs xs P n = record {
+    room : P ≤ length rs;
+    numbers : P ≤ length xs;
+    used : n ≤ P;
+    inside : Inside P xs;
+    apart : Apart P xs;
+    sorted : in_order (named rs (take n xs)) ≡ true;
+    held : length (named rs (take n xs)) ≤ P;
+  }
 
   -- the facts, from an index and an order
   kept : (rs : List (Record V)) (xs : List ℕ) (P n : ℕ) (m : List (Record V)) → P ≤ length rs → P ≤ length xs → n ≤ P → Inside P xs → Apart P xs → named rs (take n xs) ≡ m → Ascending m → Kept rs xs P n
   kept rs xs P n m room numbers used I A is asc =
       let long = named_length rs xs n (omega arith) (omega arith) in
-      (room, (numbers, (used, (I, (A, (ap in_order is ∙ ordered m asc, (omega arith, tt)))))))
+      record { room = room; numbers = numbers; used = used; inside = I; apart = A; sorted = ap in_order is ∙ ordered m asc; held = omega arith }
 
   module _ (rs : List (Record V)) (xs : List ℕ) (P n : ℕ) (room : P ≤ length rs) (numbers : P ≤ length xs) (used : n ≤ P) (I : Inside P xs) (A : Apart P xs) where
     -- a record is written over the one at p

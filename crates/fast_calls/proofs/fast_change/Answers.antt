@@ -13,17 +13,17 @@ returns-then-found-seen g c =
     let e = sym c.summary-found.ensures.pending ∙ c.if-found.false in
     sym (fast_conflict _ c.args.key c.args.seen c.args.value e _ c.summary-found.ensures.greatest c.if-found-seen.true)
 
-pub returns-in-default : goal.returns-in-default
-returns-in-default g c =
+pub returns-in_default : goal.returns-in_default
+returns-in_default g c =
     let e = sym c.summary-found.ensures.pending ∙ c.if-found.false in
-    sym (fast_spent _ c.args.key c.args.seen c.args.value e _ c.summary-found.ensures.greatest c.if-found-seen.false c.in-default.ensures)
+    sym (fast_spent _ c.args.key c.args.seen c.args.value e _ c.summary-found.ensures.greatest c.if-found-seen.false c.in_default.ensures)
 
-pub returns-in-default-put : goal.returns-in-default-put
-returns-in-default-put g c =
+pub returns-in_default-put : goal.returns-in_default-put
+returns-in_default-put g c =
     let e = sym c.summary-found.ensures.pending ∙ c.if-found.false in
     let f = c.in-Some.number in
     let l = g.S.VersionStore.records c.args.store.now in
-    let d = denied (g.S.VersionStore.capacity c.args.store.now) (record_of c.args.key f (Some f) c.args.value) l _ _ c.in-default-put.ensures.after in
+    let d = denied (g.S.VersionStore.capacity c.args.store.now) (record_of c.args.key f (Some f) c.args.value) l _ _ c.in_default-put.ensures.after in
     same _ _ _ _ refl refl refl refl refl refl refl d.1 refl (same_sizes _ _ _ _ _ _ _ _ _ _ _ _ _ refl refl refl refl c.put.ensures.kept refl) refl
     ∙ sym (fast_full _ c.args.key c.args.seen c.args.value e _ c.summary-found.ensures.greatest c.if-found-seen.false f c.in-Some.ensures d.0)
 

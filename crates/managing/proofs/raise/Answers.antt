@@ -7,13 +7,13 @@ use Rattle.engine.proofs.Agreement.{same}
 use Rattle.managing.proofs.Exits.{raise_denied, raise_done}
 use Rattle.managing.proofs.raise.Goals as goal
 
-pub returns-then-clock-in-charge-floor : goal.returns-then-clock-in-charge-floor
-returns-then-clock-in-charge-floor g c =
+pub returns-then-clock_in_charge-floor : goal.returns-then-clock_in_charge-floor
+returns-then-clock_in_charge-floor g c =
     let e = charge_is (numbers c.args.engine.now.managers) (entries c.args.conflicts0.now) (entries c.args.conflicts1.now) ∙ sym c.clock_in_charge.ensures.is in
-    sym (raise_denied _ c.args.floor _ e c.if-clock-in-charge-floor.true)
+    sym (raise_denied _ c.args.floor _ e c.if-clock_in_charge-floor.true)
 
 pub returns : goal.returns
 returns g c =
     let e = charge_is (numbers c.args.engine.now.managers) (entries c.args.conflicts0.now) (entries c.args.conflicts1.now) ∙ sym c.clock_in_charge.ensures.is in
     same _ _ _ _ refl c.max-engine-2.ensures c.max-engine.ensures refl refl refl refl refl refl refl (ap Number c.max-engine.ensures)
-    ∙ sym (raise_done _ c.args.floor _ e c.if-clock-in-charge-floor.false)
+    ∙ sym (raise_done _ c.args.floor _ e c.if-clock_in_charge-floor.false)

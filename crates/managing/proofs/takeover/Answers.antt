@@ -9,11 +9,11 @@ use Rattle.engine.proofs.Agreement.{same, same_sizes}
 use Rattle.managing.proofs.Exits.{takeover_err, takeover_ok}
 use Rattle.managing.proofs.takeover.Goals as goal
 
-pub returns-in-err-low : goal.returns-in-err-low
-returns-in-err-low g c =
+pub returns-in_err-low : goal.returns-in_err-low
+returns-in_err-low g c =
     let p = numbers c.args.engine.now.managers in
     let e = err_from_is_err_and c.from-residual.result c.from-residual.ensures.1 in
-    let d = takeover_err _ c.args.seat p _ refl refl c.in-err-low.field-0.0 c.in-err-low.ensures in
+    let d = takeover_err _ c.args.seat p _ refl refl c.in_err-low.field-0.0 c.in_err-low.ensures in
     same _ _ _ _ (ap (λ (q : Numbers). q.cell) d.same) refl refl refl
     (ap (λ (q : Numbers). seats q (entries c.args.conflicts0.now) (entries c.args.conflicts1.now)) d.same) (ap (λ (q : Numbers). q.charge) d.same) refl refl refl
     (same_sizes _ _ _ _ _ _ _ _ _ _ _ _ _ (ap (λ (q : Numbers). q.span) d.same) refl refl refl refl refl) (ap answer_of (e.1 ∙ ap Err e.2))
@@ -22,7 +22,7 @@ returns-in-err-low g c =
 pub returns-then-seat-eq0 : goal.returns-then-seat-eq0
 returns-then-seat-eq0 g c =
     let p = numbers c.args.engine.now.managers in
-    let d = takeover_ok _ c.args.seat p _ refl refl c.in-ok-low.low c.in-ok-low.ensures in
+    let d = takeover_ok _ c.args.seat p _ refl refl c.in_ok-low.low c.in_ok-low.ensures in
     same _ _ _ _ (ap (λ (q : Numbers). q.cell) d.is) (c.max-engine.ensures ∙ ap (λ n. max c.args.engine.now.fence n) d.number) refl refl
     (taken_seats0 c.args.seat p _ (entries c.args.conflicts0.now) (entries c.clear.new.self) (entries c.args.conflicts1.now) c.if-seat-eq0.true c.clear.ensures.after d.is)
     (ap (λ (q : Numbers). q.charge) d.is) refl refl refl
@@ -32,7 +32,7 @@ returns-then-seat-eq0 g c =
 pub returns-else-seat-eq0 : goal.returns-else-seat-eq0
 returns-else-seat-eq0 g c =
     let p = numbers c.args.engine.now.managers in
-    let d = takeover_ok _ c.args.seat p _ refl refl c.in-ok-low.low c.in-ok-low.ensures in
+    let d = takeover_ok _ c.args.seat p _ refl refl c.in_ok-low.low c.in_ok-low.ensures in
     let one : c.args.seat ≡ 1 = omega (arith, d.seat, c.if-seat-eq0.false) in
     same _ _ _ _ (ap (λ (q : Numbers). q.cell) d.is) (c.max-engine.ensures ∙ ap (λ n. max c.args.engine.now.fence n) d.number) refl refl
     (taken_seats1 c.args.seat p _ (entries c.args.conflicts0.now) (entries c.args.conflicts1.now) (entries c.clear-else-seat-eq0.new.self) one c.clear-else-seat-eq0.ensures.after d.is)

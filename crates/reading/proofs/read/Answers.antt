@@ -7,8 +7,8 @@ use Rattle.walks.specs.Memory.{with_memory}
 use Rattle.reading.proofs.Exits.{read_no_row, read_validated, read_settled, read_below, read_own, read_walk}
 use Rattle.reading.proofs.read.Goals as goal
 
-pub returns-in-default : goal.returns-in-default
-returns-in-default g c = sym (read_no_row _ c.args.id c.args.key c.in-default.ensures)
+pub returns-in_default : goal.returns-in_default
+returns-in_default g c = sym (read_no_row _ c.args.id c.args.key c.in_default.ensures)
 
 pub returns-then-id-engine : goal.returns-then-id-engine
 returns-then-id-engine g c = sym (read_below _ c.args.id c.args.key _ _ _ c.in-Some.ensures c.in-Open.is c.if-id-engine.true)
@@ -19,21 +19,21 @@ returns-in-Validated g c = sym (read_validated _ c.args.id c.args.key _ _ _ c.in
 pub returns-in-Settled : goal.returns-in-Settled
 returns-in-Settled g c = sym (read_settled _ c.args.id c.args.key _ _ _ c.in-Some.ensures _ c.in-Settled.is)
 
-pub returns-in-Some-record-at : goal.returns-in-Some-record-at
-returns-in-Some-record-at g c =
+pub returns-in-Some-record_at : goal.returns-in-Some-record_at
+returns-in-Some-record_at g c =
     let S = g.S.VersionStore in
     let C = g.C.CommitTable in
     let s = database c.args.engine.now c.args.rows.now c.args.conflicts0.now c.args.conflicts1.now (S.records c.args.store.now) (S.capacity c.args.store.now) (C.entries c.args.commits.now) (C.capacity c.args.commits.now) in
     same _ (raise_class_of c.args.key c.args.id s) _ _ refl refl refl c.raise.ensures refl refl refl refl refl refl refl
-    ∙ sym (read_own s c.args.id c.args.key _ _ _ c.in-Some.ensures c.in-Open.is c.if-id-engine.false _ c.in-Some-record-at.ensures)
+    ∙ sym (read_own s c.args.id c.args.key _ _ _ c.in-Some.ensures c.in-Open.is c.if-id-engine.false _ c.in-Some-record_at.ensures)
 
-pub returns-in-default-record-at : goal.returns-in-default-record-at
-returns-in-default-record-at g c =
+pub returns-in_default-record_at : goal.returns-in_default-record_at
+returns-in_default-record_at g c =
     let S = g.S.VersionStore in
     let C = g.C.CommitTable in
     let s = database c.args.engine.now c.args.rows.now c.args.conflicts0.now c.args.conflicts1.now (S.records c.args.store.now) (S.capacity c.args.store.now) (C.entries c.args.commits.now) (C.capacity c.args.commits.now) in
     same _ (with_memory (numbers_of c.walk_found.new.classes) (S.records c.walk_found.new.store) (C.entries c.walk_found.new.commits) s) _ _
     refl refl refl refl refl refl refl refl refl
-    (same_sizes _ _ _ _ _ _ _ _ _ _ _ _ _ refl refl refl refl c.walk_found.ensures.records c.walk_found.ensures.entries) c.value-found.ensures
+    (same_sizes _ _ _ _ _ _ _ _ _ _ _ _ _ refl refl refl refl c.walk_found.ensures.records c.walk_found.ensures.entries) c.value_found.ensures
     ∙ (c.walk_found.ensures.walked s refl refl
-    ∙ sym (read_walk s c.args.id c.args.key _ _ _ c.in-Some.ensures c.in-Open.is c.if-id-engine.false c.in-default-record-at.ensures))
+    ∙ sym (read_walk s c.args.id c.args.key _ _ _ c.in-Some.ensures c.in-Open.is c.if-id-engine.false c.in_default-record_at.ensures))

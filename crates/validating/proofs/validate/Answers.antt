@@ -27,35 +27,35 @@ back1 : (z : Bool) (a b : List (ℕ × ℕ)) → cond z b (cond z a b) ≡ b
 back1 true a b = refl
 back1 false a b = refl
 
-pub returns-then-places-of-eq0 : goal.returns-then-places-of-eq0
-returns-then-places-of-eq0 g c = sym (no_place _ c.args.id c.args.seat (sym c.places-of.ensures ∙ c.if-places-of-eq0.true))
+pub returns-then-places_of-eq0 : goal.returns-then-places_of-eq0
+returns-then-places_of-eq0 g c = sym (no_place _ c.args.id c.args.seat (sym c.places_of.ensures ∙ c.if-places_of-eq0.true))
 
 pub returns-then-seat-gt1 : goal.returns-then-seat-gt1
 returns-then-seat-gt1 g c =
-    sym (some_place _ c.args.id c.args.seat (λ e. c.if-places-of-eq0.false (c.places-of.ensures ∙ e)) ∙ validate_above _ c.args.id c.args.seat c.if-seat-gt1.true)
+    sym (some_place _ c.args.id c.args.seat (λ e. c.if-places_of-eq0.false (c.places_of.ensures ∙ e)) ∙ validate_above _ c.args.id c.args.seat c.if-seat-gt1.true)
 
-pub returns-in-default : goal.returns-in-default
-returns-in-default g c =
-    sym (some_place _ c.args.id c.args.seat (λ e. c.if-places-of-eq0.false (c.places-of.ensures ∙ e)) ∙ validate_no_row _ c.args.id c.args.seat c.if-seat-gt1.false c.in-default.ensures)
+pub returns-in_default : goal.returns-in_default
+returns-in_default g c =
+    sym (some_place _ c.args.id c.args.seat (λ e. c.if-places_of-eq0.false (c.places_of.ensures ∙ e)) ∙ validate_no_row _ c.args.id c.args.seat c.if-seat-gt1.false c.in_default.ensures)
 
-pub returns-in-default-phase : goal.returns-in-default-phase
-returns-in-default-phase g c =
-    sym (some_place _ c.args.id c.args.seat (λ e. c.if-places-of-eq0.false (c.places-of.ensures ∙ e)) ∙ validate_phase _ c.args.id c.args.seat c.if-seat-gt1.false _ _ _ c.in-Some.ensures c.in-default-phase.not-Open)
+pub returns-in_default-phase : goal.returns-in_default-phase
+returns-in_default-phase g c =
+    sym (some_place _ c.args.id c.args.seat (λ e. c.if-places_of-eq0.false (c.places_of.ensures ∙ e)) ∙ validate_phase _ c.args.id c.args.seat c.if-seat-gt1.false _ _ _ c.in-Some.ensures c.in_default-phase.not-Open)
 
 pub returns-then-id-engine : goal.returns-then-id-engine
 returns-then-id-engine g c =
-    sym (some_place _ c.args.id c.args.seat (λ e. c.if-places-of-eq0.false (c.places-of.ensures ∙ e)) ∙ validate_fenced _ c.args.id c.args.seat c.if-seat-gt1.false _ _ _ c.in-Some.ensures c.in-Open.is c.if-id-engine.true)
+    sym (some_place _ c.args.id c.args.seat (λ e. c.if-places_of-eq0.false (c.places_of.ensures ∙ e)) ∙ validate_fenced _ c.args.id c.args.seat c.if-seat-gt1.false _ _ _ c.in-Some.ensures c.in-Open.is c.if-id-engine.true)
 
-pub returns-then-is-vacant : goal.returns-then-is-vacant
-returns-then-is-vacant g c =
+pub returns-then-is_vacant : goal.returns-then-is_vacant
+returns-then-is_vacant g c =
     let p = numbers c.args.engine.now.managers in
-    let t : (manager_at c.args.seat p).taken ≡ false = sym c.is-vacant.ensures ∙ ap not c.if-is-vacant.true in
-    sym (some_place _ c.args.id c.args.seat (λ e. c.if-places-of-eq0.false (c.places-of.ensures ∙ e))
+    let t : (manager_at c.args.seat p).taken ≡ false = sym c.is_vacant.ensures ∙ ap not c.if-is_vacant.true in
+    sym (some_place _ c.args.id c.args.seat (λ e. c.if-places_of-eq0.false (c.places_of.ensures ∙ e))
     ∙ validate_vacant _ c.args.id c.args.seat c.if-seat-gt1.false _ _ _ c.in-Some.ensures c.in-Open.is c.if-id-engine.false
     (look_vacant c.args.seat p (entries c.args.conflicts0.now) (entries c.args.conflicts1.now) c.if-seat-gt1.false t))
 
-pub returns-in-err-number : goal.returns-in-err-number
-returns-in-err-number g c =
+pub returns-in_err-number : goal.returns-in_err-number
+returns-in_err-number g c =
     let p = numbers c.args.engine.now.managers in
     let q = c.args.seat in
     let id = c.args.id in
@@ -65,11 +65,11 @@ returns-in-err-number g c =
     let ks = take row.held row.keys in
     let n0 = capacity c.args.conflicts0.now in
     let n1 = capacity c.args.conflicts1.now in
-    let w = c.in-err-number.field-0.0 in
+    let w = c.in_err-number.field-0.0 in
     let x = err_from_is_err_and c.from-residual.result c.from-residual.ensures.1 in
-    let t : (manager_at q p).taken ≡ true = sym c.is-vacant.ensures ∙ ap not c.if-is-vacant.false in
-    let nz : cond (eqb q 0) n0 n1 ≡ 0 → ⊥ = λ e. c.if-places-of-eq0.false (c.places-of.ensures ∙ e) in
-    let h = c.in-err-number.ensures.validated ∙ ap (λ l. validate_both q n0 n1 id l p a b) c.keys-held.ensures in
+    let t : (manager_at q p).taken ≡ true = sym c.is_vacant.ensures ∙ ap not c.if-is_vacant.false in
+    let nz : cond (eqb q 0) n0 n1 ≡ 0 → ⊥ = λ e. c.if-places_of-eq0.false (c.places_of.ensures ∙ e) in
+    let h = c.in_err-number.ensures.validated ∙ ap (λ l. validate_both q n0 n1 id l p a b) c.keys_held.ensures in
     let d = refused _ id q ks row.stamped p (conflicts_at q a b) (cond (eqb q 0) n0 n1) refl refl refl nz w (sym (ap (λ (o : Both). o.answer) h)) in
     let eP = ap (λ (o : Both). o.after) h ∙ d.after in
     let eA = ap (λ (o : Both). o.left0) h ∙ (ap (λ l. cond (eqb q 0) l a) d.left ∙ back0 (eqb q 0) a b) in
@@ -91,10 +91,10 @@ returns g c =
     let n0 = capacity c.args.conflicts0.now in
     let n1 = capacity c.args.conflicts1.now in
     let n = cond (eqb q 0) n0 n1 in
-    let t : (manager_at q p).taken ≡ true = sym c.is-vacant.ensures ∙ ap not c.if-is-vacant.false in
-    let nz : cond (eqb q 0) n0 n1 ≡ 0 → ⊥ = λ e. c.if-places-of-eq0.false (c.places-of.ensures ∙ e) in
-    let h = c.in-ok-number.ensures.validated ∙ ap (λ l. validate_both q n0 n1 id l p a b) c.keys-held.ensures in
-    let d = accepted _ id q ks row.stamped p (conflicts_at q a b) n refl refl refl nz c.in-ok-number.number (sym (ap (λ (o : Both). o.answer) h)) in
+    let t : (manager_at q p).taken ≡ true = sym c.is_vacant.ensures ∙ ap not c.if-is_vacant.false in
+    let nz : cond (eqb q 0) n0 n1 ≡ 0 → ⊥ = λ e. c.if-places_of-eq0.false (c.places_of.ensures ∙ e) in
+    let h = c.in_ok-number.ensures.validated ∙ ap (λ l. validate_both q n0 n1 id l p a b) c.keys_held.ensures in
+    let d = accepted _ id q ks row.stamped p (conflicts_at q a b) n refl refl refl nz c.in_ok-number.number (sym (ap (λ (o : Both). o.answer) h)) in
     let m = table_after q n ks p (conflicts_at q a b) in
     let eP = ap (λ (o : Both). o.after) h ∙ d.after in
     let eA = ap (λ (o : Both). o.left0) h ∙ ap (λ l. cond (eqb q 0) l a) d.left in
@@ -102,7 +102,7 @@ returns g c =
     same _ _ _ _ (ap (λ (m : Numbers). m.cell) eP) refl refl refl
     (same_seats (numbers c.validate.new.self) (numbers c.validate.new.self) _ _ _ _ refl eA eB ∙ seats_after q d.cell d.end m.low p (numbers c.validate.new.self) a b m.conflicts c.if-seat-gt1.false t eP)
     (ap (λ (m : Numbers). m.charge) eP)
-    (c.put-row.ensures.after ∙ (put_there _ _ _ _ _ c.in-Some.ensures ∙ ap (λ z. enter id (transaction (Validated z) ks row.stamped) (transactions (entries c.args.rows.now))) d.number)) refl refl
-    (same_sizes _ _ _ _ _ _ _ _ _ _ _ _ _ (ap (λ (m : Numbers). m.span) eP) c.put-row.ensures.kept c.validate.ensures.kept0 c.validate.ensures.kept1 refl refl) (ap Number d.number)
+    (c.put_row.ensures.after ∙ (put_there _ _ _ _ _ c.in-Some.ensures ∙ ap (λ z. enter id (transaction (Validated z) ks row.stamped) (transactions (entries c.args.rows.now))) d.number)) refl refl
+    (same_sizes _ _ _ _ _ _ _ _ _ _ _ _ _ (ap (λ (m : Numbers). m.span) eP) c.put_row.ensures.kept c.validate.ensures.kept0 c.validate.ensures.kept1 refl refl) (ap Number d.number)
     ∙ sym (some_place _ id q nz
     ∙ (validate_there _ id q c.if-seat-gt1.false _ _ _ c.in-Some.ensures c.in-Open.is c.if-id-engine.false _ (look_taken q p a b c.if-seat-gt1.false t) ∙ d.exit))

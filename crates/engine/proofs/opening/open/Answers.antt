@@ -22,12 +22,12 @@ no_seats p f n a b e = rw e refl
 fits_is : (a a' b b' c c' d d' e e' : ℕ) (r : Bool) → a ≡ a' → b ≡ b' → c ≡ c' → d ≡ d' → e ≡ e' → r ≡ places_fit a b c d e → places_fit a' b' c' d' e' ≡ r
 fits_is a a' b b' c c' d d' e e' r p q u s t h = rw (← p, ← q, ← u, ← s, ← t) (sym h)
 
-pub returns-in-default : goal.returns-in-default
-returns-in-default g c = record { answer = sym (outside_steps _ _ _ (none_from _ _ c.in-default.ensures)); denied = (refl, refl, refl) }
+pub returns-in_default : goal.returns-in_default
+returns-in_default g c = record { answer = sym (outside_steps _ _ _ (none_from _ _ c.in_default.ensures)); denied = (refl, refl, refl) }
 
-pub returns-then-not-do-places-fit : goal.returns-then-not-do-places-fit
-returns-then-not-do-places-fit g c =
-    let f = fits_is _ _ _ _ _ _ _ _ _ _ _ c.capacity.ensures c.capacity-2.ensures c.capacity-3.ensures c.capacity-4.ensures c.capacity-5.ensures c.if-not-do-places-fit.ensures in
+pub returns-then-not-do_places_fit : goal.returns-then-not-do_places_fit
+returns-then-not-do_places_fit g c =
+    let f = fits_is _ _ _ _ _ _ _ _ _ _ _ c.capacity.ensures c.capacity-2.ensures c.capacity-3.ensures c.capacity-4.ensures c.capacity-5.ensures c.if-not-do_places_fit.ensures in
     record { answer = sym (outside_places _ _ _ f); denied = (refl, refl, refl) }
 
 pub returns-then-count-ne0 : goal.returns-then-count-ne0
@@ -43,7 +43,7 @@ returns g c =
     let es = g.C.CommitTable.entries c.args.commits.now in
     let m : count l ≡ 0 = sym c.count.ensures ∙ c.if-count-ne0.false in
     let n : length es ≡ 0 = sym c.count-2.ensures ∙ c.if-count-ne0-2.false in
-    let f = fits_is _ _ _ _ _ _ _ _ _ _ _ c.capacity.ensures c.capacity-2.ensures c.capacity-3.ensures c.capacity-4.ensures c.capacity-5.ensures c.if-not-do-places-fit.ensures in
+    let f = fits_is _ _ _ _ _ _ _ _ _ _ _ c.capacity.ensures c.capacity-2.ensures c.capacity-3.ensures c.capacity-4.ensures c.capacity-5.ensures c.if-not-do_places_fit.ensures in
     let p : numbers c.in-Some.managers ≡ begun c.args.first c.args.span = some_from _ _ _ c.in-Some.ensures in
     record {
       answer =

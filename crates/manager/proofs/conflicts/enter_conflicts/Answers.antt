@@ -13,9 +13,9 @@ loop-key-preserved c =
     let ks = c.args.keys.now in
     let i = c.loop-key.key-index in
     let m = conflict_table c.loop-key.risen (entries c.loop-key.conflicts) in (
-      ap (enter_conflicts n c.args.number (drop (i + 1) ks)) (c.enter-conflict-risen.ensures.entered ∙ ap (λ z. enter_conflict z c.args.number (get_or ks i 0) m) c.loop-key.invariant.1)
+      ap (enter_conflicts n c.args.number (drop (i + 1) ks)) (c.enter_conflict-risen.ensures.entered ∙ ap (λ z. enter_conflict z c.args.number (get_or ks i 0) m) c.loop-key.invariant.1)
           ∙ (sym (entering_more n c.args.number ks i m c.loop-key-test.true) ∙ c.loop-key.invariant.0),
-      c.enter-conflict-risen.ensures.kept ∙ c.loop-key.invariant.1,
+      c.enter_conflict-risen.ensures.kept ∙ c.loop-key.invariant.1,
     )
 
 pub returns : goal.returns

@@ -7,8 +7,8 @@ use Rattle.manager.proofs.conflicts.first_conflict.Goals as goal
 pub loop-key-init : goal.loop-key-init
 loop-key-init c = refl
 
-pub returns-then-number-at-id : goal.returns-then-number-at-id
-returns-then-number-at-id c =
+pub returns-then-number_at-id : goal.returns-then-number_at-id
+returns-then-number_at-id c =
     let t = entries c.args.conflicts.now in
     let h : c.args.id < number_or_0 (look_up t (get_or c.args.keys.now c.loop-key.key-index 0)) = omega arith in
     sym c.loop-key.invariant ∙ conflict_here c.args.id t c.args.keys.now c.loop-key.key-index c.loop-key-test.true h

@@ -19,7 +19,7 @@ loop-i-preserved c =
     sym (least_step l j)
     ∙ (ap (λ n. lesser_in (at l j) (least_entry (drop n l))) q
     ∙ (ap (lesser_in (at l j)) c.loop-i.invariant
-    ∙ (ap (λ o. lesser_in o (pair_in c.loop-i.least)) c.get.ensures ∙ sym c.lesser-of-least.ensures)))
+    ∙ (ap (λ o. lesser_in o (pair_in c.loop-i.least)) c.get.ensures ∙ sym c.lesser_of-least.ensures)))
 
 pub returns : goal.returns
 returns c =

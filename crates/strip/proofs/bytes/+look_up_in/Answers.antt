@@ -10,12 +10,12 @@ returns-then-body-lt24 t c =
     let b = c.args.body.now in
     look_in_none (length b / 24) b c.args.id (omega arith)
 
-pub returns-then-number-in-id : goal.returns-then-number-in-id
-returns-then-number-in-id t c =
+pub returns-then-number_in-id : goal.returns-then-number_in-id
+returns-then-number_in-id t c =
     let b = c.args.body.now in
-    look_here b c.args.id (omega arith) (sym c.number-in.ensures ∙ c.if-number-in-id.true) ∙ sym (ap (λ e. Some e) c.entry-in.ensures)
+    look_here b c.args.id (omega arith) (sym c.number_in.ensures ∙ c.if-number_in-id.true) ∙ sym (ap (λ e. Some e) c.entry_in.ensures)
 
 pub returns : goal.returns
 returns t c =
     let b = c.args.body.now in
-    look_there b c.args.id (omega arith) (λ e. c.if-number-in-id.false (c.number-in.ensures ∙ e)) ∙ sym (ap (λ d. look_up (read_body (length d / 24) d) c.args.id) (take_rest b 24)) ∙ c.look-up-in.ensures
+    look_there b c.args.id (omega arith) (λ e. c.if-number_in-id.false (c.number_in.ensures ∙ e)) ∙ sym (ap (λ d. look_up (read_body (length d / 24) d) c.args.id) (take_rest b 24)) ∙ c.look_up_in.ensures

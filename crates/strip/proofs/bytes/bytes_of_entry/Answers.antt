@@ -6,10 +6,10 @@ use Rattle.strip.proofs.bytes.bytes_of_entry.Goals as goal
 
 pub returns-in-Committed : goal.returns-in-Committed
 returns-in-Committed c =
-    let p = c.packed-bytes.ensures in
+    let p = c.packed_bytes.ensures in
     let is = c.in-Committed.is in
     let id = c.args.id in
-    let r = c.packed-bytes.result in
+    let r = c.packed_bytes.result in
     let n = read_8 (drop 16 r) in
     record {
       bytes = p.bytes ∙ ap (λ e. entry_bytes (id, e)) (sym is);
@@ -18,10 +18,10 @@ returns-in-Committed c =
 
 pub returns-in-Aborted : goal.returns-in-Aborted
 returns-in-Aborted c =
-    let p = c.packed-bytes-in-Aborted.ensures in
+    let p = c.packed_bytes-in-Aborted.ensures in
     let is = c.in-Aborted.is in
     let id = c.args.id in
-    let r = c.packed-bytes-in-Aborted.result in
+    let r = c.packed_bytes-in-Aborted.result in
     let n = read_8 (drop 16 r) in
     record {
       bytes = p.bytes ∙ ap (λ e. entry_bytes (id, e)) (sym is);

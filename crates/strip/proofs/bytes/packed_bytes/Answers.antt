@@ -7,6 +7,6 @@ pub returns : goal.returns
 returns c =
     record {
       bytes = search rules;
-      id = ap read_8 c.to-le-bytes-i.ensures ∙ read_in_8 c.args.id (omega arith);
-      number = ap read_8 c.to-le-bytes-n.ensures ∙ read_in_8 c.args.number (omega arith);
+      id = ap read_8 c.to_le_bytes-i.ensures ∙ read_in_8 c.args.id (omega arith);
+      number = ap read_8 c.to_le_bytes-n.ensures ∙ read_in_8 c.args.number (omega arith);
     }

@@ -9,4 +9,4 @@ returns c =
     let part = c.args.part.now in
     let k = (at + length part) - at in
     let e : at + k ≡ at + length part = omega arith in
-    ap (λ ys. take at b ++ (ys ++ drop k (drop at b))) c.copy-from-slice.ensures.after ∙ ap (λ zs. take at b ++ (part ++ zs)) (drop-drop k at b ∙ ap (λ n. drop n b) e)
+    ap (λ ys. take at b ++ (ys ++ drop k (drop at b))) c.copy_from_slice.ensures.after ∙ ap (λ zs. take at b ++ (part ++ zs)) (drop-drop k at b ∙ ap (λ n. drop n b) e)

@@ -27,4 +27,4 @@ pub loop-next-smaller : goal.loop-next-smaller
 loop-next-smaller g c = height_less (g.S.VersionStore.records c.args.store.now) c.args.key _ _ _ c.in-Some.is c.older-next.ensures
 
 pub returns : goal.returns
-returns g c = sym (below_all (g.S.VersionStore.records c.args.store.now) c.args.key _ c.in-default.is c.args.floor _) ∙ c.loop-next.invariant.1
+returns g c = sym (below_all (g.S.VersionStore.records c.args.store.now) c.args.key _ c.in_default.is c.args.floor _) ∙ c.loop-next.invariant.1

@@ -2,8 +2,8 @@ use Rattle.std.proofs.Common.{arith}
 use Rattle.model.proofs.Newest.{none_at, newest_is, newest_at, newest_gap}
 use Rattle.versions.proofs.questions.record_at.Goals as goal
 
-pub returns-in-default : goal.returns-in-default
-returns-in-default g c = none_at (g.S.VersionStore.records c.args.store.now) c.args.key c.args.version c.args.version c.in-default.ensures (omega arith)
+pub returns-in_default : goal.returns-in_default
+returns-in_default g c = none_at (g.S.VersionStore.records c.args.store.now) c.args.key c.args.version c.args.version c.in_default.ensures (omega arith)
 
 pub returns-then-found-version : goal.returns-then-found-version
 returns-then-found-version g c =

@@ -31,4 +31,4 @@ pub returns : goal.returns
 returns g c =
     let l = g.S.VersionStore.records c.args.store.now in
     let k = c.args.key in
-    record { pending = sym (pending_all l k _ c.in-default.is _) ∙ c.loop-next.invariant.1; greatest = sym (greatest_all l k _ c.in-default.is _) ∙ c.loop-next.invariant.2 }
+    record { pending = sym (pending_all l k _ c.in_default.is _) ∙ c.loop-next.invariant.1; greatest = sym (greatest_all l k _ c.in_default.is _) ∙ c.loop-next.invariant.2 }

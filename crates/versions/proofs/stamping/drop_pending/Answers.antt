@@ -4,10 +4,10 @@ use Rattle.model.specs.Records.{record_at, drop_record}
 use Rattle.model.specs.Versions.{is_pending, is_pending_record}
 use Rattle.versions.proofs.stamping.drop_pending.Goals as goal
 
-pub returns-in-default : goal.returns-in-default
-returns-in-default g c =
+pub returns-in_default : goal.returns-in_default
+returns-in_default g c =
     let l = g.S.VersionStore.records c.args.store.now in
-    let p : is_pending_record (record_at l c.args.key c.args.version) ≡ false = ap is_pending_record c.in-default.ensures in
+    let p : is_pending_record (record_at l c.args.key c.args.version) ≡ false = ap is_pending_record c.in_default.ensures in
     record { answer = sym p; after = sym (ap (λ b. cond b (drop_record c.args.key c.args.version l) l) p); kept = refl }
 
 pub returns-in-Some-number : goal.returns-in-Some-number
@@ -19,7 +19,7 @@ returns-in-Some-number g c =
 pub returns : goal.returns
 returns g c =
     let l = g.S.VersionStore.records c.args.store.now in
-    let p : is_pending_record (record_at l c.args.key c.args.version) ≡ true = ap is_pending_record c.in-Some.ensures ∙ ap is_pending c.in-default-number.is in
+    let p : is_pending_record (record_at l c.args.key c.args.version) ≡ true = ap is_pending_record c.in-Some.ensures ∙ ap is_pending c.in_default-number.is in
     record {
       answer = c.drop_record.ensures.answer ∙ (ap is_there c.in-Some.ensures ∙ sym p);
       after = c.drop_record.ensures.after ∙ sym (ap (λ b. cond b (drop_record c.args.key c.args.version l) l) p);

@@ -19,7 +19,7 @@ returns-in-Committed g c =
     record {
       learned = λ s f p.
           ap₂ (λ a b. (with_memory a b e s, Ok (Some n))) c.stamp_record.ensures.raised m
-          ∙ sym (ap₂ (learn k v (with_memory (numbers_of c.args.classes.now) l e s)) c.in-default.is (c.in-Some-look-up.ensures ∙ ap Some c.in-Committed.is));
+          ∙ sym (ap₂ (learn k v (with_memory (numbers_of c.args.classes.now) l e s)) c.in_default.is (c.in-Some-look_up.ensures ∙ ap Some c.in-Committed.is));
       versions = λ b. ap (λ d. versions_down d k b []) m ∙ down_mark k v n l k b [];
       others = λ w ne. ap (λ d. record_at d k w) m ∙ mark_elsewhere k v n w l ne;
       numbered = ap (λ d. record_at d k v) m ∙ mark_here k v n l c.args.met.now c.requires;

@@ -44,34 +44,34 @@ loop-next-preserved g c =
           (with_memory (numbers_of c.loop-next.classes) l (g.C.CommitTable.entries c.loop-next.commits) s)
           (with_memory (numbers_of c.judge.new.classes) d (g.C.CommitTable.entries c.judge.new.commits) s)
           n r c.judge.result c.loop-next.invariant.0 c.in-Some.is (c.judge.ensures.judged s f (p ∙ sym c.loop-next.invariant.3))
-          o (c.in-ok-judged.was ∙ ap Ok c.in-default-judged.is) A (λ b h. c.judge.ensures.versions b) e
+          o (c.in_ok-judged.was ∙ ap Ok c.in_default-judged.is) A (λ b h. c.judge.ensures.versions b) e
           ∙ c.loop-next.invariant.1 s f p,
       c.judge.ensures.records ∙ c.loop-next.invariant.2,
       c.judge.ensures.entries ∙ c.loop-next.invariant.3,
-      passed_next id k l d n r c.in-Some.is c.loop-next.invariant.4 A c.judge.ensures.others o (sym c.in-default-judged.is ∙ c.in-ok-judged.ensures.numbered) e,
+      passed_next id k l d n r c.in-Some.is c.loop-next.invariant.4 A c.judge.ensures.others o (sym c.in_default-judged.is ∙ c.in_ok-judged.ensures.numbered) e,
       (let h = height_less d k n r o c.in-Some.is e in omega (arith, c.loop-next.invariant.5)),
     )
 
 pub loop-next-smaller : goal.loop-next-smaller
 loop-next-smaller g c = height_less (g.S.VersionStore.records c.judge.new.store) c.args.key c.loop-next.next c.in-Some.met c.older-next.result c.in-Some.is c.older-next.ensures
 
-pub returns-in-err-judged : goal.returns-in-err-judged
-returns-in-err-judged g c =
+pub returns-in_err-judged : goal.returns-in_err-judged
+returns-in_err-judged g c =
     let k = c.args.key in
     let id = c.args.id in
     let d = g.S.VersionStore.records c.judge.new.store in
     let t = with_memory (numbers_of c.judge.new.classes) d (g.C.CommitTable.entries c.judge.new.commits) in
-    let w = c.in-err-judged.field-0.0 in
-    let p = err_from_is_err_and c.from-residual.result c.from-residual.ensures.1 in
+    let w = c.in_err-judged.field-0.0 in
+    let p = err_from_is_err_and c.from_residual.result c.from_residual.ensures.1 in
     record {
       walked = λ s f q.
           ap (λ x. (t s, read_answer x)) (p.1 ∙ ap Err p.2)
           ∙ (walk_denied id k
           (with_memory (numbers_of c.loop-next.classes) (g.S.VersionStore.records c.loop-next.store) (g.C.CommitTable.entries c.loop-next.commits) s)
           (t s) c.loop-next.next c.in-Some.met c.judge.result c.loop-next.invariant.0 c.in-Some.is (c.judge.ensures.judged s f (q ∙ sym c.loop-next.invariant.3))
-          w c.in-err-judged.was
+          w c.in_err-judged.was
           ∙ c.loop-next.invariant.1 s f q);
-      found = IfOk-from_err c.from-residual.result (λ o. o ≡ newest k id (numbered_below id d)) c.from-residual.ensures.0;
+      found = IfOk-from_err c.from_residual.result (λ o. o ≡ newest k id (numbered_below id d)) c.from_residual.ensures.0;
       records = c.judge.ensures.records ∙ c.loop-next.invariant.2;
       entries = c.judge.ensures.entries ∙ c.loop-next.invariant.3;
     }
@@ -94,9 +94,9 @@ returns-in-Some-judged g c =
           (with_memory (numbers_of c.loop-next.classes) l (g.C.CommitTable.entries c.loop-next.commits) s)
           (with_memory (numbers_of c.judge.new.classes) d es s)
           n r c.judge.result c.loop-next.invariant.0 c.in-Some.is (c.judge.ensures.judged s f (p ∙ sym c.loop-next.invariant.3))
-          y (c.in-ok-judged.was ∙ ap Ok c.in-Some-judged.is)
+          y (c.in_ok-judged.was ∙ ap Ok c.in-Some-judged.is)
           ∙ c.loop-next.invariant.1 s f p);
-      found = found_newest id k l d n r c.in-Some.is c.loop-next.invariant.4 A c.judge.ensures.others y (sym c.in-Some-judged.is ∙ c.in-ok-judged.ensures.numbered) c.loop-next.invariant.5;
+      found = found_newest id k l d n r c.in-Some.is c.loop-next.invariant.4 A c.judge.ensures.others y (sym c.in-Some-judged.is ∙ c.in_ok-judged.ensures.numbered) c.loop-next.invariant.5;
       records = c.judge.ensures.records ∙ c.loop-next.invariant.2;
       entries = c.judge.ensures.entries ∙ c.loop-next.invariant.3;
     }
@@ -110,8 +110,8 @@ returns g c =
     record {
       walked = λ s f p.
           ap (λ a. (with_memory a l es s, Value None)) c.raise-2.ensures
-          ∙ (sym (walk_all id k (with_memory (numbers_of c.loop-next.classes) l es s) c.loop-next.next c.in-default.is) ∙ c.loop-next.invariant.1 s f p);
-      found = found_none id k l c.loop-next.next (g.S.VersionStore.ordered c.loop-next.store) c.in-default.is c.loop-next.invariant.4;
+          ∙ (sym (walk_all id k (with_memory (numbers_of c.loop-next.classes) l es s) c.loop-next.next c.in_default.is) ∙ c.loop-next.invariant.1 s f p);
+      found = found_none id k l c.loop-next.next (g.S.VersionStore.ordered c.loop-next.store) c.in_default.is c.loop-next.invariant.4;
       records = c.loop-next.invariant.2;
       entries = c.loop-next.invariant.3;
     }

@@ -54,7 +54,7 @@ pub returns : goal.returns
 returns g c =
     let l = g.S.VersionStore.records c.loop-next.store in
     record {
-      swept = λ s f. sym (sweep_all c.args.key (with_memory (numbers_of c.loop-next.classes) l (g.C.CommitTable.entries c.args.commits.now) s) _ c.loop-next.next c.in-default.is) ∙ c.loop-next.invariant.1 s f;
+      swept = λ s f. sym (sweep_all c.args.key (with_memory (numbers_of c.loop-next.classes) l (g.C.CommitTable.entries c.args.commits.now) s) _ c.loop-next.next c.in_default.is) ∙ c.loop-next.invariant.1 s f;
       fewer = c.loop-next.invariant.2;
       kept = c.loop-next.invariant.3;
     }

@@ -11,7 +11,7 @@ use Rattle.versions.specs.Meaning.{numbers_of}
 use Rattle.walks.specs.Memory.{with_memory}
 use Rattle.walks.proofs.Dropping.{count_mark, fewer_by_one, no_more, lower_same}
 use Rattle.walks.proofs.sweeping.sweep_pending.Goals as goal
-use Rattle.walks.proofs.sweeping.sweep_pending.Goals.{in-Some-look-up+in-default-standing, in-default-look-up}
+use Rattle.walks.proofs.sweeping.sweep_pending.Goals.{in-Some-look_up+in_default-standing, in_default-look_up}
 
 pub returns-in-Committed : goal.returns-in-Committed
 returns-in-Committed g c =
@@ -29,7 +29,7 @@ returns-in-Committed g c =
           let t = with_memory (numbers_of c.args.classes.now) l es s in
           ap₂ (λ a x. (with_memory a x es s, n + (count l - count d))) c.stamp_record.ensures.raised m
           ∙ (ap (λ i. (with_memory (raise_class k q (numbers_of c.args.classes.now)) (mark k v q l) es s, i)) (y n)
-          ∙ sym (ap (λ o. sweep_number k v t n o) c.in-default.is ∙ ap (sweep_pending k v t n) (c.in-Some-look-up.ensures ∙ ap Some c.in-Committed.is)));
+          ∙ sym (ap (λ o. sweep_number k v t n o) c.in_default.is ∙ ap (sweep_pending k v t n) (c.in-Some-look_up.ensures ∙ ap Some c.in-Committed.is)));
       lower = λ b h. ap (λ x. versions_down x k b []) m ∙ down_mark k v q l k b [];
       fewer = omega arith;
       kept = c.stamp_record.ensures.kept;
@@ -47,14 +47,14 @@ returns-then-met-floor g c =
     let e = c.drop_record.ensures.after in
     let t : State g.row.S-Value.Denot → State g.row.S-Value.Denot = with_memory (numbers_of c.args.classes.now) l es in
     let not-committed : (s : State g.row.S-Value.Denot) (n : ℕ) → sweep_pending k v (t s) n (look_up es v) ≡ drop_low k v (t s) n (ltb v s.floor) =
-    λ s n. elim c.match-look-up.branch [
-      | in-Some-look-up+in-default-standing w ↦ ap (sweep_pending k v (t s) n) (w.in-Some-look-up.ensures ∙ ap Some w.in-default-standing.is)
-      | in-default-look-up w ↦ ap (sweep_pending k v (t s) n) w.in-default-look-up.ensures
+    λ s n. elim c.match-look_up.branch [
+      | in-Some-look_up+in_default-standing w ↦ ap (sweep_pending k v (t s) n) (w.in-Some-look_up.ensures ∙ ap Some w.in_default-standing.is)
+      | in_default-look_up w ↦ ap (sweep_pending k v (t s) n) w.in_default-look_up.ensures
     ] in
     record {
       swept = λ s f n.
           ap₂ (λ x m. (with_memory (numbers_of c.args.classes.now) x es s, m)) e (fewer_by_one k v l d r A c.requires e n)
-          ∙ sym (ap (sweep_number k v (t s) n) c.in-default.is ∙ (not-committed s n ∙ ap (drop_low k v (t s) n) (ap (λ i. ltb v i) f ∙ lt-ltb v c.args.floor c.if-met-floor.true)));
+          ∙ sym (ap (sweep_number k v (t s) n) c.in_default.is ∙ (not-committed s n ∙ ap (drop_low k v (t s) n) (ap (λ i. ltb v i) f ∙ lt-ltb v c.args.floor c.if-met-floor.true)));
       lower = lower_same k v l d r A c.requires e;
       fewer = no_more k v l d r A c.requires e;
       kept = c.drop_record.ensures.kept;

@@ -14,12 +14,12 @@ pub loop-low-preserved : goal.loop-low-preserved
 loop-low-preserved g c =
     let s = c.args.self.now in
     let long = counted s in
-    let low = rank_low c.args.key c.args.version (shelved s) _ c.record-at-r.result (ascending s) (omega arith) c.record-at-r.ensures (sym c.if-is-before.ensures) in
+    let low = rank_low c.args.key c.args.version (shelved s) _ c.record_at-r.result (ascending s) (omega arith) c.record_at-r.ensures (sym c.if-is_before.ensures) in
     (omega arith, omega arith, omega arith)
 
-pub loop-low-preserved-then-is-before : goal.loop-low-preserved-then-is-before
-loop-low-preserved-then-is-before g c =
+pub loop-low-preserved-then-is_before : goal.loop-low-preserved-then-is_before
+loop-low-preserved-then-is_before g c =
     let s = c.args.self.now in
     let long = counted s in
-    let high = rank_high c.args.key c.args.version (shelved s) _ c.record-at-r.result (ascending s) (omega arith) c.record-at-r.ensures (sym c.if-is-before.ensures) in
+    let high = rank_high c.args.key c.args.version (shelved s) _ c.record_at-r.result (ascending s) (omega arith) c.record_at-r.ensures (sym c.if-is_before.ensures) in
     (omega arith, omega arith, omega arith)

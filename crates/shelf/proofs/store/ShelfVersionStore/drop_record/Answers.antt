@@ -4,16 +4,16 @@ use Rattle.version_store.proofs.Lookups.{drop_none}
 use Rattle.shelf.proofs.Shelves.{hit_within, hit_there, miss_there, dropped}
 use Rattle.shelf.proofs.store.ShelfVersionStore.drop_record.Goals as goal
 
-pub index-up-requires : goal.index-up-requires
-index-up-requires g c = let l = hit_within c.args.self.now c.args.key c.args.version c.in-Ok.position c.in-Ok.ensures in (omega arith, omega arith)
+pub index_up-requires : goal.index_up-requires
+index_up-requires g c = let l = hit_within c.args.self.now c.args.key c.args.version c.in-Ok.position c.in-Ok.ensures in (omega arith, omega arith)
 
-pub invariant-of-self : goal.invariant-of-self
-invariant-of-self g c = (dropped c.args.self.now c.args.key c.args.version c.in-Ok.position c.index-up.new.memory c.in-Ok.ensures c.index-up.ensures.records c.index-up.ensures.index c.index-up.ensures.long).1
+pub invariant_of-self : goal.invariant_of-self
+invariant_of-self g c = (dropped c.args.self.now c.args.key c.args.version c.in-Ok.position c.index_up.new.memory c.in-Ok.ensures c.index_up.ensures.records c.index_up.ensures.index c.index_up.ensures.long).1
 
 pub returns-in-Ok : goal.returns-in-Ok
 returns-in-Ok g c = record {
   answer = hit_there c.args.self.now c.args.key c.args.version c.in-Ok.position c.in-Ok.ensures;
-  after = (dropped c.args.self.now c.args.key c.args.version c.in-Ok.position c.index-up.new.memory c.in-Ok.ensures c.index-up.ensures.records c.index-up.ensures.index c.index-up.ensures.long).0;
+  after = (dropped c.args.self.now c.args.key c.args.version c.in-Ok.position c.index_up.new.memory c.in-Ok.ensures c.index_up.ensures.records c.index_up.ensures.index c.index_up.ensures.long).0;
   kept = refl;
 }
 

@@ -18,21 +18,21 @@ pub returns-then-n-m : goal.returns-then-n-m
 returns-then-n-m c =
     let s = c.args.self.now in
     let l = length_read_body s.count (drop 16 (bytes_of s)) in
-    record { placed = place_full s.capacity c.args.id c.args.entry (body_of s) s.distinct c.in-default.ensures (omega arith); kept = refl; body = refl; bytes = refl }
+    record { placed = place_full s.capacity c.args.id c.args.entry (body_of s) s.distinct c.in_default.ensures (omega arith); kept = refl; body = refl; bytes = refl }
 
-pub add-entry-requires : goal.add-entry-requires
-add-entry-requires c =
+pub add_entry-requires : goal.add_entry-requires
+add_entry-requires c =
     let s = c.args.self.now in
     let room : s.count < s.capacity = omega (arith, s.fit.0) in
     (room, (s.fit.1, whole_length s.capacity s.count (bytes_of s) s.fit.0 (s.whole (omega arith))))
 
-pub invariant-of-self : goal.invariant-of-self
-invariant-of-self c =
+pub invariant_of-self : goal.invariant_of-self
+invariant_of-self c =
     let s = c.args.self.now in
     let e : IdEntry = (c.args.id, c.args.entry) in
     let room : s.count < s.capacity = omega (arith, s.fit.0) in
-    let w = settled_grown s.capacity s.count (bytes_of s) c.add-entry.new.t.bytes.now e (s.whole (omega arith)) room c.add-entry.ensures.sound c.add-entry.ensures.bytes in
-    ((omega arith, s.fit.1), ((λ h. w.whole), (subst Distinct (sym w.body-is) (distinct_push (body_of s) e s.distinct c.in-default.ensures), tt)))
+    let w = settled_grown s.capacity s.count (bytes_of s) c.add_entry.new.t.bytes.now e (s.whole (omega arith)) room c.add_entry.ensures.sound c.add_entry.ensures.bytes in
+    record { fit = (omega arith, s.fit.1); whole = λ h. w.whole; distinct = subst Distinct (sym w.body_is) (distinct_push (body_of s) e s.distinct c.in_default.ensures) }
 
 pub returns : goal.returns
 returns c =
@@ -40,10 +40,10 @@ returns c =
     let e : IdEntry = (c.args.id, c.args.entry) in
     let l = length_read_body s.count (drop 16 (bytes_of s)) in
     let room : s.count < s.capacity = omega (arith, s.fit.0) in
-    let w = settled_grown s.capacity s.count (bytes_of s) c.add-entry.new.t.bytes.now e (s.whole (omega arith)) room c.add-entry.ensures.sound c.add-entry.ensures.bytes in
+    let w = settled_grown s.capacity s.count (bytes_of s) c.add_entry.new.t.bytes.now e (s.whole (omega arith)) room c.add_entry.ensures.sound c.add_entry.ensures.bytes in
     record {
-      placed = ap (λ es. placing Placed (arranged es)) w.body-is ∙ place_new s.capacity c.args.id c.args.entry (body_of s) s.distinct c.in-default.ensures (omega arith);
+      placed = ap (λ es. placing Placed (arranged es)) w.body_is ∙ place_new s.capacity c.args.id c.args.entry (body_of s) s.distinct c.in_default.ensures (omega arith);
       kept = refl;
-      body = w.body-is;
+      body = w.body_is;
       bytes = w.bytes;
     }

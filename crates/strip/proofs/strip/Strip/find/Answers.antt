@@ -17,4 +17,4 @@ returns c =
     let room : 0 < s.capacity = omega (arith, s.fit.0) in
     let whole = s.whole room in
     sym (ap (λ b. place_of (read_body (length b / 24) b) c.args.id) (part_body s.capacity s.count (bytes_of s) (body_of s) whole (length_read_body s.count (drop 16 (bytes_of s)))) ∙ ap (λ es. place_of es c.args.id) (read_part (body_of s) (sounds_in s.capacity s.count (bytes_of s) whole)))
-    ∙ c.place-in.ensures.place
+    ∙ c.place_in.ensures.place

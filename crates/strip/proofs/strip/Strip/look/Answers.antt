@@ -23,4 +23,4 @@ returns c =
     let room : 0 < s.capacity = omega (arith, s.fit.0) in
     let whole = s.whole room in
     sym (ap (λ b. look_up (read_body (length b / 24) b) c.args.id) (part_body s.capacity s.count (bytes_of s) (body_of s) whole (length_read_body s.count (drop 16 (bytes_of s)))) ∙ ap (λ es. look_up es c.args.id) (read_part (body_of s) (sounds_in s.capacity s.count (bytes_of s) whole)))
-    ∙ c.look-up-in.ensures
+    ∙ c.look_up_in.ensures

@@ -11,7 +11,7 @@ returns c =
     let t = c.args.self.now in
     let within = entries_within t in
     let lt : length (entries t) < capacity t = omega arith in
-    let new = c.in-default.ensures in
+    let new = c.in_default.ensures in
     let done = c.insert.ensures in
     let added = done.answer ∙ insert_added (entries t) (capacity t) c.args.id new lt in
     record {
