@@ -1,22 +1,25 @@
 -- A key is added to those of a row.
-use Rattle.std.proofs.Common.{◌≡◌, ℕ, ◌+◌, ◌<◌, ◌≤◌, Bool, true, false, cond, ◌||◌, eqb, List, [], ◌∷◌, ◌++◌, length, take, set, Some, None, Decides, sym, refl, ap, ◌∙◌, arith, length-take}
-use Rattle.std.proofs.lemmas.List.Elements.{contains_decides}
+use Rattle.std.proofs.Common.{◌≡◌, ℕ, ◌+◌, ◌<◌, ◌≤◌, Bool, true, false, cond, ◌||◌, eqb, List, [], ◌∷◌, ◌++◌, length, take, set, Some, None, sym, refl, ap, ◌∙◌, arith, length-take}
 use Rattle.std.proofs.lemmas.List.{take_more_set}
 use Rattle.std.proofs.lemmas.Bool.{le-leb, lt-leb}
-use Rattle.std.proofs.lemmas.Bool.Decides.{same_from_decides, Decides-eqb, Decides-like, Decides-by_or}
-use Rattle.std.specs.List.{IsAnyAnswer}
+use Rattle.std.proofs.lemmas.Bool.Decides.{nat_tests}
+use Rattle.std.specs.List.{list_any}
 use Rattle.model.specs.declared.words.Phase.{Phase}
 use Rattle.model.specs.Transactions.{transaction, member, with_key}
 use Rattle.writing.specs.Keys.{add_key}
 
 module _ (k : ℕ) where
+  -- a test against k, from either side
+  same_test : (x : ℕ) → eqb x k ≡ eqb k x
+  same_test x = grind (arith, nat_tests)
+
+  any_is : (xs : List ℕ) → list_any (λ y. eqb y k) xs ≡ member k xs
+  any_is [] = refl
+  any_is (x ∷ xs) = ap (λ b. b || list_any (λ y. eqb y k) xs) (same_test x) ∙ ap (λ b. eqb k x || b) (any_is xs)
+
   -- what `contains` answers of the keys that are held
-  pub contains_is : (xs ks : List ℕ) (r : Bool) → xs ≡ ks → IsAnyAnswer (λ y t. Decides t (y ≡ k)) xs r → member k ks ≡ r
-  contains_is xs ks r e h =
-      ap (member k) (sym e)
-      ∙ same_from_decides (member k xs) r
-      (Decides-by_or (λ x. eqb k x) (λ x. x ≡ k) (member k) (λ x. Decides-like (eqb k x) sym sym (Decides-eqb k x)) refl (λ _ _. refl) xs)
-      (contains_decides eqb Decides-eqb xs k r h)
+  pub contains_is : (xs ks : List ℕ) (r : Bool) → xs ≡ ks → r ≡ list_any (λ y. eqb y k) xs → member k ks ≡ r
+  contains_is xs ks r e h = ap (member k) (sym e) ∙ (sym (any_is xs) ∙ sym h)
 
   held_here : (b : Bool) (x : ℕ) (xs r : List ℕ) → (b || member k xs) ≡ true → (member k xs ≡ true → r ≡ xs) → cond b (x ∷ xs) (x ∷ r) ≡ x ∷ xs
   held_here true x xs r e h = refl

@@ -12,7 +12,7 @@ use Rattle.managing.proofs.takeover.Goals as goal
 pub returns-in_err-low : goal.returns-in_err-low
 returns-in_err-low g c =
     let p = numbers c.args.engine.now.managers in
-    let e = err_from_is_err_and c.from-residual.result c.from-residual.ensures.1 in
+    let e = err_from_is_err_and c.from_residual.result c.from_residual.ensures.1 in
     let d = takeover_err _ c.args.seat p _ refl refl c.in_err-low.field-0.0 c.in_err-low.ensures in
     same _ _ _ _ (ap (λ (q : Numbers). q.cell) d.same) refl refl refl
     (ap (λ (q : Numbers). seats q (entries c.args.conflicts0.now) (entries c.args.conflicts1.now)) d.same) (ap (λ (q : Numbers). q.charge) d.same) refl refl refl

@@ -32,8 +32,8 @@ returns-in_default-record_at g c =
     let S = g.S.VersionStore in
     let C = g.C.CommitTable in
     let s = database c.args.engine.now c.args.rows.now c.args.conflicts0.now c.args.conflicts1.now (S.records c.args.store.now) (S.capacity c.args.store.now) (C.entries c.args.commits.now) (C.capacity c.args.commits.now) in
-    same _ (with_memory (numbers_of c.walk_found.new.classes) (S.records c.walk_found.new.store) (C.entries c.walk_found.new.commits) s) _ _
+    same _ (with_memory (numbers_of c.walk-found.new.classes) (S.records c.walk-found.new.store) (C.entries c.walk-found.new.commits) s) _ _
     refl refl refl refl refl refl refl refl refl
-    (same_sizes _ _ _ _ _ _ _ _ _ _ _ _ _ refl refl refl refl c.walk_found.ensures.records c.walk_found.ensures.entries) c.value_found.ensures
-    ∙ (c.walk_found.ensures.walked s refl refl
+    (same_sizes _ _ _ _ _ _ _ _ _ _ _ _ _ refl refl refl refl c.walk-found.ensures.records c.walk-found.ensures.entries) c.value_found.ensures
+    ∙ (c.walk-found.ensures.walked s refl refl
     ∙ sym (read_walk s c.args.id c.args.key _ _ _ c.in-Some.ensures c.in-Open.is c.if-id-engine.false c.in_default-record_at.ensures))

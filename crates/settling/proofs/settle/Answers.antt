@@ -20,7 +20,7 @@ pub returns-in_err-commit : goal.returns-in_err-commit
 returns-in_err-commit g c =
     let l = g.C.CommitTable.entries c.args.commits.now in
     let w = c.in_err-commit.field-0.0 in
-    let e = err_from_is_err_and c.from-residual.result c.from-residual.ensures.1 in
+    let e = err_from_is_err_and c.from_residual.result c.from_residual.ensures.1 in
     same _ _ _ _ refl refl refl refl refl refl refl refl
     (denied_left (g.C.CommitTable.capacity c.args.commits.now) c.args.id c.in-Validated.number l _ w (look_up l c.args.id) c.in_err-commit.ensures.placed)
     (same_sizes _ _ _ _ _ _ _ _ _ _ _ _ _ refl refl refl refl refl c.commit.ensures.kept) (ap answer_of (e.1 ∙ ap Err e.2))

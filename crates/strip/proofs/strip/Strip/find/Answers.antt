@@ -5,8 +5,8 @@ use Rattle.strip.specs.Meaning.{body_of, bytes_of, length_read_body}
 use Rattle.strip.proofs.Strips.{whole_length, part_body, read_part, sounds_in}
 use Rattle.strip.proofs.strip.Strip.find.Goals as goal
 
-pub slice_bounds_place_in_end : goal.slice_bounds_place_in_end
-slice_bounds_place_in_end c =
+pub slice_bounds-place_in-end : goal.slice_bounds-place_in-end
+slice_bounds-place_in-end c =
     let s = c.args.self.now in
     let room : 0 < s.capacity = omega (arith, s.fit.0) in
     omega (arith, s.fit.0, whole_length s.capacity s.count (bytes_of s) s.fit.0 (s.whole room))

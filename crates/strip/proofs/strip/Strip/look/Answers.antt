@@ -11,8 +11,8 @@ returns-then-self-eq0 c =
     let s = c.args.self.now in
     look_in_none s.count (drop 16 (bytes_of s)) c.args.id (omega arith)
 
-pub slice_bounds_look_up_in_end : goal.slice_bounds_look_up_in_end
-slice_bounds_look_up_in_end c =
+pub slice_bounds-look_up_in-end : goal.slice_bounds-look_up_in-end
+slice_bounds-look_up_in-end c =
     let s = c.args.self.now in
     let room : 0 < s.capacity = omega (arith, s.fit.0) in
     omega (arith, s.fit.0, whole_length s.capacity s.count (bytes_of s) s.fit.0 (s.whole room))
