@@ -1,11 +1,11 @@
 -- What the calls on chains answer.
-use Rattle.std.proofs.Common.{◌≡◌, ℕ, zero, suc, ◌+◌, ◌<◌, ◌≤◌, Bool, true, false, cond, ltb, List, [], ◌∷◌, length, get_or, set, replicate, Ok, Err, sym, refl, ap, ◌∙◌, subst, ⊎_elim, arith}
+use Rattle.std.proofs.Common.{◌≡◌, ℕ, suc, ◌+◌, ◌<◌, ◌≤◌, true, false, ltb, List, [], ◌∷◌, length, get_or, set, replicate, Ok, Err, sym, refl, ap, ◌∙◌, ⊎_elim, arith}
 use Rattle.std.proofs.lemmas.Bool.{cases_lt, cond-false, le-ltb}
-use Rattle.std.proofs.lemmas.List.{get_or_default, length-replicate, get_or-replicate, length-set}
+use Rattle.std.proofs.lemmas.List.{get_or_default, length-replicate, get_or-replicate}
 use Rattle.model.specs.declared.words.Record.{Record}
 use Rattle.chains.specs.declared.memory.Node.{Node}
-use Rattle.model.specs.Records.{count, record_at, put}
-use Rattle.chains.specs.Links.{Sound, Standing, Absent, AllFree, HeadIn, HeadTop, NextIn, NextTop, Apart, FreeIn, FreeOnce, Classed, col, chain_of, key_of, version_of, tag_of, next_of, spare_of, head_at, canon, live_count}
+use Rattle.model.specs.Records.{record_at, put}
+use Rattle.chains.specs.Links.{Sound, Standing, Absent, AllFree, HeadIn, HeadTop, NextIn, NextTop, Apart, FreeIn, FreeOnce, Classed, col, chain_of, key_of, tag_of, next_of, spare_of, head_at, canon, live_count}
 use Rattle.model.specs.Maps.{is_there}
 use Rattle.version_store.specs.Order.{in_order}
 use Rattle.version_store.specs.Putting.{put_in, putting}
@@ -42,19 +42,19 @@ module _ {V : Type 0} where
 
     -- the facts that a `Chains` holds, in their order
     pub ghosts : record {
-          wide : length hs ≡ 64;
-          starts : HeadIn (length ns) (col chain_of ns) (head_at hs);
-          greatest : HeadTop (length ns) (col chain_of ns) (col tag_of ns) (head_at hs);
-          steps : NextIn (length ns) (col chain_of ns) (col tag_of ns) (col next_of ns);
-          nearest : NextTop (length ns) (col chain_of ns) (col tag_of ns) (col next_of ns);
-          apart : Apart (length ns) (col chain_of ns) (col tag_of ns);
-          spares : FreeIn (length ns) F (col chain_of ns) (col spare_of ns);
-          once : FreeOnce F (col spare_of ns);
-          classed : Classed (length ns) (col chain_of ns) (col key_of ns);
-          total : live_count ns + F ≡ length ns;
-          sorted : in_order (canon ns) ≡ true;
-          held : length (canon ns) ≤ length ns;
-        }
+      wide : length hs ≡ 64;
+      starts : HeadIn (length ns) (col chain_of ns) (head_at hs);
+      greatest : HeadTop (length ns) (col chain_of ns) (col tag_of ns) (head_at hs);
+      steps : NextIn (length ns) (col chain_of ns) (col tag_of ns) (col next_of ns);
+      nearest : NextTop (length ns) (col chain_of ns) (col tag_of ns) (col next_of ns);
+      apart : Apart (length ns) (col chain_of ns) (col tag_of ns);
+      spares : FreeIn (length ns) F (col chain_of ns) (col spare_of ns);
+      once : FreeOnce F (col spare_of ns);
+      classed : Classed (length ns) (col chain_of ns) (col key_of ns);
+      total : live_count ns + F ≡ length ns;
+      sorted : in_order (canon ns) ≡ true;
+      held : length (canon ns) ≤ length ns;
+    }
     ghosts = record {
       wide = S.wide;
       starts = S.linked.head_in;

@@ -1,6 +1,6 @@
 -- Chains stay linked when a node is put in or taken out: plain arithmetic on the columns.
-use Rattle.std.proofs.Common.{◌≡◌, ℕ, ◌<◌, ◌≤◌, sym, refl, ap, ◌∙◌, ⊎_elim, arith}
-use Rattle.std.proofs.lemmas.Bool.{cases_lt, cases_eq, cases_order}
+use Rattle.std.proofs.Common.{◌≡◌, ℕ, ◌<◌, ◌≤◌, sym, ap, ◌∙◌, ⊎_elim, arith}
+use Rattle.std.proofs.lemmas.Bool.{cases_eq, cases_order}
 use Rattle.chains.specs.Links.{Linked, HeadIn, HeadTop, NextIn, NextTop, Apart}
 
 -- a free node f goes into the chain c with the tag t, before the node q

@@ -6,8 +6,8 @@ use Rattle.std.proofs.lemmas.List.{length-set, get_or_default, get_or-set_same, 
 use Rattle.model.specs.declared.words.Record.{Record}
 use Rattle.chains.specs.declared.memory.Node.{Node}
 use Rattle.model.specs.Records.{put, drop_record}
-use Rattle.chains.specs.Links.{Linked, Sound, Walked, Standing, Found, Absent, Redirected, FreeIn, FreeOnce, Classed, col, chain_of, key_of, version_of, tag_of, next_of, spare_of, tag, class_of, head_at, canon, live_count}
-use Rattle.chains.proofs.Canon.{col_here, col_else, col_read, col_tag, OnlyAt, canon_write, canon_clear, canon_same, live_same, live_more, live_less, live_some_count}
+use Rattle.chains.specs.Links.{Linked, Sound, Standing, Found, Absent, Redirected, FreeIn, FreeOnce, Classed, col, chain_of, key_of, version_of, tag_of, next_of, spare_of, tag, class_of, head_at, canon, live_count}
+use Rattle.chains.proofs.Canon.{col_here, col_else, col_read, col_tag, canon_write, canon_clear, canon_same, live_same, live_more, live_less, live_some_count}
 use Rattle.chains.proofs.Walking.{class_below, only_at, absent_nowhere}
 use Rattle.chains.proofs.Linking.{linked_after, linked_first, unlinked_after, unlinked_first}
 

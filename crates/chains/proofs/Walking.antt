@@ -1,10 +1,9 @@
 -- What a walk along a chain finds.
-use Rattle.std.proofs.Common.{◌≡◌, ℕ, suc, ◌+◌, ◌*◌, ◌%◌, ◌<◌, ◌≤◌, Bool, true, false, eqb, ltb, List, length, get_or, Some, None, Option, sym, refl, ap, ◌∙◌, subst, ⊎_elim, arith}
-use Rattle.std.proofs.lemmas.Bool.{cases_lt, cases_order, cond-true, cond-false, cond_both, lt-ltb, both_ways, ltb-true}
-use Rattle.model.specs.declared.words.Record.{Record}
+use Rattle.std.proofs.Common.{◌≡◌, ℕ, suc, ◌<◌, ◌≤◌, true, false, ltb, List, length, get_or, Some, None, sym, ap, ◌∙◌, ⊎_elim, arith}
+use Rattle.std.proofs.lemmas.Bool.{cases_lt, cases_order, cond-true, cond_both, lt-ltb, both_ways, ltb-true}
 use Rattle.chains.specs.declared.memory.Node.{Node}
 use Rattle.model.specs.Records.{stands, record_at, newest}
-use Rattle.chains.specs.Links.{in_reach, Linked, Sound, Walked, Standing, Found, Absent, Toward, left_from, col, chain_of, key_of, version_of, tag_of, next_of, tag, class_of, head_at, canon}
+use Rattle.chains.specs.Links.{in_reach, Sound, Walked, Standing, Found, Absent, Toward, left_from, col, chain_of, key_of, version_of, tag_of, next_of, tag, class_of, head_at, canon}
 use Rattle.version_store.proofs.Lookups.{newest_look, newest_no_look}
 use Rattle.chains.proofs.Canon.{stands_key, reach_from, reach_key, col_read, col_tag, Distinct, OnlyAt, Nowhere, canon_look, canon_ascends, live_some, live_none}
 

@@ -1,5 +1,5 @@
 -- Nodes in 64 chains: the columns of a list of nodes, and when the chains are sound.
-use Rattle.std.specs.Prelude.{◌≡◌, ℕ, zero, suc, ◌+◌, ◌*◌, ◌%◌, ◌^◌, ◌<◌, ◌≤◌, Bool, true, false, cond, ◌&&◌, List, [], ◌∷◌, length, ◌==◌, ◌≢◌, nat_le, nat_lt, slice_index}
+use Rattle.std.specs.Prelude.{◌≡◌, ℕ, zero, suc, ◌+◌, ◌*◌, ◌%◌, ◌<◌, ◌≤◌, Bool, cond, ◌&&◌, List, [], ◌∷◌, length, ◌==◌, ◌≢◌, nat_le, nat_lt, slice_index}
 use Rattle.model.specs.declared.words.Record.{Record}
 use Rattle.chains.specs.declared.memory.Node.{Node}
 use Rattle.model.specs.Records.{put}

@@ -1,5 +1,5 @@
 -- One call more, and the past that is written.
-use Rattle.std.proofs.Common.{◌≡◌, ℕ, suc, ◌+◌, ◌<◌, ◌≤◌, eqb, List, [], ◌∷◌, ◌++◌, length, get_or, take, set, Ok, sym, refl, ap, ◌∙◌}
+use Rattle.std.proofs.Common.{◌≡◌, ℕ, ◌+◌, ◌<◌, List, [], ◌∷◌, ◌++◌, length, get_or, take, set, Ok, sym, refl, ap, ◌∙◌}
 use Rattle.std.proofs.lemmas.List.{take_more, take_more_set}
 use Rattle.std.proofs.lemmas.Bool.{eq-eqb}
 use Rattle.model.specs.declared.call.Opening.{Opening}
@@ -9,7 +9,7 @@ use Rattle.model.specs.State.{State, opened}
 use Rattle.model.specs.Step.{step}
 use Rattle.history.specs.Past.{answered}
 use Rattle.model.specs.After.{after}
-use Rattle.history.specs.Law.{Lawful, past_of}
+use Rattle.history.specs.Law.{past_of}
 use Rattle.history.proofs.Theorem.{history}
 use Rattle.database.specs.Running.{answers_to, written_past, Ran}
 

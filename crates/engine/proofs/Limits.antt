@@ -1,5 +1,5 @@
 -- Opening within its limits, and outside them.
-use Rattle.std.proofs.Common.{◌≡◌, ℕ, Bool, true, false, cond, ◌&&◌, eqb, Some, None, Ok, Err, Option, sym, refl, ap, ◌∙◌, arith}
+use Rattle.std.proofs.Common.{◌≡◌, ℕ, Bool, true, false, cond, ◌&&◌, eqb, Some, None, Ok, Err, Option, refl, ◌∙◌, arith}
 use Rattle.std.proofs.lemmas.Bool.{and_left, and_right, eq-eqb, ne_eqb}
 use Rattle.model.specs.declared.refusal.Refusal.TheVariants.{OutsideLimits}
 use Rattle.model.specs.declared.call.Opening.{Opening}

@@ -13,7 +13,6 @@ use Rattle.model.specs.Classes.{class_number}
 use Rattle.model.specs.Transactions.{member, Transaction, transaction}
 use Rattle.model.specs.State.{State, with_rows, with_entries, with_records, with_floor, raise_class_of}
 use Rattle.model.specs.Stamping.{row_gone, records_gone}
-use Rattle.model.specs.Settling.{settled}
 use Rattle.history.proofs.Summaries.{Commit, Summary}
 use Rattle.model.proofs.Parts.{settled_in, settled_number, has_key, has_unstamped, committed_number, pending_value, record_number, record_value}
 use Rattle.history.proofs.Facts.{Made, Done, Kept, by_stamp, by_entry, hidden, Time, Tables}

@@ -7,7 +7,6 @@ use Rattle.model.specs.Maps.{look_up}
 use Rattle.model.specs.Records.{record_at}
 use Rattle.model.specs.Classes.{class_number}
 use Rattle.model.specs.State.{State, fresh, within, opened}
-use Rattle.model.specs.Settling.{settled}
 use Rattle.model.specs.Step.{step}
 use Rattle.history.specs.Past.{In, began, read_answered, effect, AnsweredRead, summary}
 use Rattle.history.proofs.Summaries.{Commit, Summary, with_effect, empty_summary, summary_from, bare, plains, summary_is, ordered_plains}

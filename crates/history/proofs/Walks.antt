@@ -7,7 +7,7 @@ use Rattle.model.specs.declared.words.CommitEntry.TheVariants.{Committed, Aborte
 use Rattle.model.specs.declared.words.Phase.{Phase}
 use Rattle.model.specs.declared.words.Phase.TheVariants.{Open, Validated, Settled}
 use Rattle.model.specs.Maps.{is_there, look_up}
-use Rattle.model.specs.Records.{record_of, record_at, mark}
+use Rattle.model.specs.Records.{record_of, record_at}
 use Rattle.model.specs.Versions.{versions_down}
 use Rattle.model.specs.Classes.{class_number}
 use Rattle.model.specs.Transactions.{member, Transaction}

@@ -1,9 +1,9 @@
 -- Conflict tables: looking for a conflict, the least entry, making room and entering keys.
-use Rattle.std.proofs.Common.{◌≡◌, ℕ, zero, suc, ◌+◌, ◌<◌, ◌≤◌, max, Bool, true, false, cond, not, ◌&&◌, ◌||◌, eqb, ltb, leb, List, [], ◌∷◌, length, get_or, drop, Some, None, Option, sym, refl, ap, ◌∙◌, arith}
+use Rattle.std.proofs.Common.{◌≡◌, ℕ, zero, suc, ◌+◌, ◌<◌, ◌≤◌, max, Bool, true, false, cond, ◌||◌, eqb, ltb, leb, List, [], ◌∷◌, length, get_or, drop, Some, None, Option, refl, ap, ◌∙◌, arith}
 use Rattle.std.proofs.lemmas.List.{at_drop_more, at_drop_all, drop_all}
 use Rattle.std.proofs.lemmas.Bool.{lt-ltb, le-ltb, le-leb, lt-leb, eq-eqb, false≢true}
 use Rattle.model.specs.Maps.{is_there, number_or_0, look_up, enter, remove}
-use Rattle.model.specs.Managers.{lesser_of, least_entry, first_conflict, ConflictTable, conflict_table, discard, enter_conflict, enter_conflicts}
+use Rattle.model.specs.Managers.{lesser_of, least_entry, first_conflict, ConflictTable, conflict_table, enter_conflict, enter_conflicts}
 use Rattle.table.specs.declared.table.Inserted.TheVariants.{Added, Replaced, Full}
 use Rattle.table.specs.Meaning.{at, insert_answer, insert_entries}
 use Rattle.manager.specs.Conflicts.{lesser_in, room_for}

@@ -1,10 +1,10 @@
 -- A manager's step is a step of the reference database.
-use Rattle.std.proofs.Common.{◌≡◌, ℕ, suc, ◌+◌, ◌*◌, ◌<◌, ◌≤◌, Bool, true, false, cond, eqb, ltb, ◌⊎◌, List, [], Ok, Err, Result, sym, refl, ap, ◌∙◌, inl, inr, ⊎_elim, arith}
+use Rattle.std.proofs.Common.{◌≡◌, ℕ, suc, ◌+◌, ◌*◌, ◌≤◌, Bool, true, false, cond, eqb, ltb, List, [], Ok, Err, Result, sym, refl, ap, ◌∙◌, ⊎_elim, arith}
 use Rattle.model.specs.declared.refusal.Refusal.{Refusal}
 use Rattle.model.specs.declared.refusal.Refusal.TheVariants.{SpanLost, StepsSpent}
 use Rattle.model.specs.Maps.{enter}
 use Rattle.model.specs.Numbers.{U, last_step}
-use Rattle.model.specs.Managers.{Seat, seat, StepOutcome, step_denied, step_taken, take_step}
+use Rattle.model.specs.Managers.{seat, StepOutcome, step_denied, step_taken, take_step}
 use Rattle.manager.specs.declared.managers.Manager.{Manager}
 use Rattle.manager.specs.Meaning.{Numbers, seated, seats, manager_at, ticked, advanced, Stepping, stepping, step_of, taken_by}
 use Rattle.manager.proofs.Seats.{zero_or_one, conflicts_at, entered0, entered1}

@@ -5,7 +5,6 @@ use Rattle.model.specs.declared.words.Phase.TheVariants.{Open}
 use Rattle.model.specs.declared.refusal.Refusal.{Refusal}
 use Rattle.model.specs.declared.refusal.Refusal.TheVariants.{OutsideLimits, SeatVacant, RowsFull, StepsSpent, AboveClock}
 use Rattle.model.specs.declared.call.Call.TheVariants.{Takeover, Begin, Raise}
-use Rattle.model.specs.declared.call.Answer.{Answer}
 use Rattle.model.specs.declared.call.Answer.TheVariants.{Denied, Number}
 use Rattle.model.specs.Numbers.{U, last_step}
 use Rattle.model.specs.Maps.{look_up, enter}

@@ -1,6 +1,6 @@
 -- Runs by computation: a test that the answers to some calls are the expected ones, which the check evaluates at once, and what it shows. (An equation between
 -- long lists of answers, checked by `refl`, would be compared term by term, which grows too large after a dozen calls.)
-use Rattle.std.proofs.Common.{◌≡◌, ℕ, Bool, true, false, cond, ◌&&◌, eqb, List, [], ◌∷◌, Some, None, Option, sym, refl, ap, ◌∙◌, arith}
+use Rattle.std.proofs.Common.{◌≡◌, ℕ, Bool, true, false, cond, ◌&&◌, eqb, List, [], ◌∷◌, Some, None, sym, refl, ap, ◌∙◌, arith}
 use Rattle.std.proofs.lemmas.Bool.Decides.{nat_tests}
 use Rattle.model.specs.declared.refusal.Refusal.{Refusal}
 use Rattle.model.specs.declared.refusal.Refusal.TheVariants.{OutsideLimits, SeatVacant, RowsFull, SpanLost, StepsSpent, NoRow, WrongPhase, Fenced, StepAhead, BelowLow, ConflictAtManager, ConflictAtEngine, KeysFull, StoreFull, BelowFloor, EntriesFull, EntryAborted, NotFenced, AboveClock, KeyPending, ClassSpent}

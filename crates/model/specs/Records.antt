@@ -1,6 +1,6 @@
 -- What a version store means: a set of records, at most one for a key and version, as a list strictly ascending by key and then version. The operations here
 -- are the store's own (count, newest at or below a bound, put, mark, drop); the version store's contracts and the reference database both speak in them.
-use Rattle.std.specs.Prelude.{◌≡◌, ℕ, Bool, true, false, cond, ◌&&◌, ◌||◌, List, [], ◌∷◌, length, Some, None, Option, ◌==◌, nat_le, nat_lt}
+use Rattle.std.specs.Prelude.{◌≡◌, ℕ, Bool, true, cond, ◌&&◌, ◌||◌, List, [], ◌∷◌, length, Some, None, Option, ◌==◌, nat_le, nat_lt}
 use Rattle.model.specs.declared.words.Record.{Record}
 
 module _ {V : Type 0} where

@@ -1,5 +1,5 @@
 -- The reference database: what it holds, opening it, and the ways in which a state is changed.
-use Rattle.std.specs.Prelude.{ℕ, ◌+◌, ◌*◌, max, Bool, cond, ◌&&◌, List, [], length, replicate, Some, None, Ok, Err, Option, Result, ◌==◌}
+use Rattle.std.specs.Prelude.{ℕ, ◌+◌, ◌*◌, max, Bool, cond, ◌&&◌, List, [], replicate, Some, None, Ok, Err, Option, Result, ◌==◌}
 use Rattle.model.specs.declared.words.Record.{Record}
 use Rattle.model.specs.declared.words.CommitEntry.{CommitEntry}
 use Rattle.model.specs.declared.call.Opening.{Opening}

@@ -1,5 +1,5 @@
 -- One call of the reference database: the state after it, and its answer.
-use Rattle.std.specs.Prelude.{ℕ, ◌+◌, ◌*◌, length, nat_le, nat_lt}
+use Rattle.std.specs.Prelude.{◌+◌, ◌*◌, length, nat_le, nat_lt}
 use Rattle.model.specs.declared.call.Call.{Call}
 use Rattle.model.specs.declared.call.Call.TheVariants.{Takeover, Begin, Write, Read, Validate, Settle, Stamp, Abandon, Bury, Raise, Sweep, FastRead, FastChange, FastWrite}
 use Rattle.model.specs.declared.call.Answer.{Answer}

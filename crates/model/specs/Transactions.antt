@@ -1,5 +1,5 @@
 -- A transaction in the row table, under its id.
-use Rattle.std.specs.Prelude.{ℕ, Bool, true, false, cond, ◌||◌, List, [], ◌∷◌, take, ◌==◌}
+use Rattle.std.specs.Prelude.{ℕ, Bool, false, cond, ◌||◌, List, [], ◌∷◌, take, ◌==◌}
 use Rattle.model.specs.declared.words.Phase.{Phase}
 use Rattle.model.specs.declared.words.Row.{Row}
 

@@ -1,5 +1,5 @@
 -- A long run of the outside vectors on a database with hardly any room, each call with its answer. Counts are written as in the short runs.
-use Rattle.std.specs.Prelude.{ℕ, List, [], ◌∷◌, Some, None}
+use Rattle.std.specs.Prelude.{ℕ, List, [], ◌∷◌, Some}
 use Rattle.model.specs.declared.refusal.Refusal.TheVariants.{OutsideLimits, SeatVacant, RowsFull, NoRow, WrongPhase, Fenced, ConflictAtEngine, StoreFull, BelowFloor, EntryAborted, NotFenced, KeyPending}
 use Rattle.model.specs.declared.call.Call.{Call}
 use Rattle.model.specs.declared.call.Call.TheVariants.{Takeover, Begin, Write, Read, Validate, Settle, Stamp, Abandon, Bury, Raise, Sweep, FastRead, FastChange, FastWrite}

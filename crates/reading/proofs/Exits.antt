@@ -6,7 +6,7 @@ use Rattle.model.specs.declared.words.Phase.{Phase}
 use Rattle.model.specs.declared.words.Phase.TheVariants.{Open, Validated, Settled}
 use Rattle.model.specs.declared.refusal.Refusal.TheVariants.{NoRow, WrongPhase, BelowFloor}
 use Rattle.model.specs.declared.call.Call.TheVariants.{Read}
-use Rattle.model.specs.declared.call.Answer.TheVariants.{Denied, Value}
+use Rattle.model.specs.declared.call.Answer.TheVariants.{Denied}
 use Rattle.model.specs.Maps.{look_up}
 use Rattle.model.specs.Records.{record_at}
 use Rattle.model.specs.Versions.{versions_down}

@@ -1,11 +1,11 @@
 -- What the calls of a shelf leave. Assumes nothing.
-use Rattle.std.proofs.Common.{◌≡◌, ℕ, ◌+◌, ◌<◌, ◌≤◌, true, List, length, get_or, take, set, sym, refl, ap, ◌∙◌, subst, arith}
+use Rattle.std.proofs.Common.{◌≡◌, ℕ, ◌+◌, ◌<◌, ◌≤◌, true, List, length, get_or, take, set, sym, ap, ◌∙◌, subst, arith}
 use Rattle.std.proofs.lemmas.List.{length-set}
 use Rattle.std.specs.List.{insert, remove}
 use Rattle.model.specs.declared.words.Record.{Record}
 use Rattle.model.specs.Records.{Ascending}
 use Rattle.version_store.specs.Order.{in_order}
-use Rattle.version_store.proofs.Ascents.{ascends, ordered}
+use Rattle.version_store.proofs.Ascents.{ordered}
 use Rattle.shelf.specs.Index.{Inside, Apart, named, source_down, source_up}
 use Rattle.shelf.proofs.Indexes.{named_length, named_set, named_insert, named_remove, down_inside, down_apart, up_inside, up_apart}
 

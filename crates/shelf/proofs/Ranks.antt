@@ -1,9 +1,9 @@
 -- Records in order by rank: what is found, and what each change leaves. Assumes nothing.
-use Rattle.std.proofs.Common.{◌≡◌, ℕ, zero, suc, ◌<◌, ◌≤◌, Bool, true, false, cond, ◌&&◌, eqb, leb, List, [], ◌∷◌, length, get_or, set, Some, None, Option, sym, refl, ap, ◌∙◌, arith}
+use Rattle.std.proofs.Common.{◌≡◌, ℕ, zero, suc, ◌<◌, ◌≤◌, Bool, true, false, cond, ◌&&◌, eqb, leb, List, [], ◌∷◌, length, get_or, set, Some, None, sym, refl, ap, arith}
 use Rattle.std.proofs.lemmas.Bool.Decides.{nat_tests}
 use Rattle.std.specs.List.{insert, remove}
 use Rattle.model.specs.declared.words.Record.{Record}
-use Rattle.model.specs.Records.{stands, before, After, Ascending, or_else, record_at, newest, put, mark, drop_record}
+use Rattle.model.specs.Records.{stands, before, After, Ascending, record_at, newest, put, mark, drop_record}
 use Rattle.version_store.proofs.Lookups.{marked, look_past, look_before, none_parts, mark_none, drop_none}
 use Rattle.shelf.specs.Rank.{rank}
 

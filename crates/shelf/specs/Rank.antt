@@ -1,5 +1,5 @@
 -- Where a key and version stand among records in order.
-use Rattle.std.specs.Prelude.{◌≡◌, ℕ, suc, ◌<◌, Bool, true, cond, List, [], ◌∷◌, length, None, slice_index_or}
+use Rattle.std.specs.Prelude.{◌≡◌, ℕ, suc, ◌<◌, true, cond, List, [], ◌∷◌, length, None, slice_index_or}
 use Rattle.model.specs.declared.words.Record.{Record}
 use Rattle.model.specs.Records.{stands, before, record_at}
 

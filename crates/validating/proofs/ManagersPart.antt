@@ -1,20 +1,19 @@
 -- A manager's part of a validation is that of the reference step.
-use Rattle.std.proofs.Common.{◌≡◌, ℕ, suc, ◌+◌, ◌*◌, ◌/◌, ◌≤◌, Bool, true, false, cond, eqb, ltb, leb, List, Some, None, Ok, Err, Option, Result, sym, refl, ap, ◌∙◌, ⊎_elim, arith}
+use Rattle.std.proofs.Common.{◌≡◌, ℕ, ◌+◌, ◌*◌, ◌/◌, ◌≤◌, Bool, true, false, cond, eqb, ltb, leb, List, Some, None, Ok, Err, Option, Result, sym, refl, ap, ◌∙◌, ⊎_elim, arith}
 use Rattle.std.proofs.lemmas.Bool.{ne_eqb}
 use Rattle.model.specs.declared.words.Phase.TheVariants.{Validated}
 use Rattle.model.specs.declared.refusal.Refusal.{Refusal}
-use Rattle.model.specs.declared.refusal.Refusal.TheVariants.{OutsideLimits, StepAhead, BelowLow, ConflictAtManager}
+use Rattle.model.specs.declared.refusal.Refusal.TheVariants.{StepAhead, BelowLow, ConflictAtManager}
 use Rattle.model.specs.declared.call.Answer.{Answer}
 use Rattle.model.specs.declared.call.Answer.TheVariants.{Denied, Number}
 use Rattle.model.specs.Maps.{enter}
 use Rattle.model.specs.Numbers.{U}
 use Rattle.model.specs.Transactions.{transaction}
-use Rattle.model.specs.Managers.{Seat, seat, StepOutcome, step_taken, step_denied, first_conflict, ConflictTable, conflict_table, enter_conflicts, conflict_capacity}
+use Rattle.model.specs.Managers.{seat, step_taken, first_conflict, ConflictTable, conflict_table, enter_conflicts, conflict_capacity}
 use Rattle.model.specs.State.{State, with_rows, with_seat}
 use Rattle.model.specs.Managing.{step_at}
 use Rattle.model.specs.Validating.{validated, validate_seat}
-use Rattle.manager.specs.declared.managers.Manager.{Manager}
-use Rattle.manager.specs.Meaning.{Numbers, seated, seats, manager_at, with_low, ticked, advanced, Stepping, stepping, step_of}
+use Rattle.manager.specs.Meaning.{Numbers, seated, seats, manager_at, with_low, advanced, stepping, step_of}
 use Rattle.manager.specs.Validation.{Validating, validating, entered, unless_conflict, validate_of}
 use Rattle.manager.proofs.Seats.{zero_or_one, entered0, entered1}
 use Rattle.manager.proofs.Taking.{outcome, step_is, step_ok, step_err, at_advanced, Advanced}

@@ -3,7 +3,6 @@ use Rattle.std.proofs.Common.{◌≡◌, ℕ, suc, ◌<◌, ◌≤◌, Bool, tru
 use Rattle.std.proofs.lemmas.Bool.Decides.{nat_tests}
 use Rattle.model.specs.declared.words.Record.{Record}
 use Rattle.model.specs.Records.{record_of, stands, before, After, Ascending, count, or_else, record_at, newest, put, mark, drop_record}
-use Rattle.version_store.proofs.Ascents.{after_before}
 
 module _ {V : Type 0} where
   abbrev pub marked : ℕ → Record V → Record V

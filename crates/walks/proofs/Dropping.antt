@@ -2,7 +2,7 @@
 use Rattle.std.proofs.Common.{◌≡◌, ℕ, suc, ◌+◌, ◌-◌, ◌<◌, ◌≤◌, Bool, true, false, cond, List, [], ◌∷◌, Some, None, Option, sym, refl, ap, ◌∙◌, subst, arith}
 use Rattle.std.proofs.lemmas.Bool.Decides.{nat_tests}
 use Rattle.model.specs.declared.words.Record.{Record}
-use Rattle.model.specs.Records.{record_of, stands, After, Ascending, count, record_at, mark, drop_record}
+use Rattle.model.specs.Records.{stands, Ascending, count, record_at, mark, drop_record}
 use Rattle.model.specs.Versions.{versions_down, number_under}
 use Rattle.model.specs.State.{State}
 use Rattle.model.specs.Sweeping.{sweep_rec, sweep_number, sweep_down, drop_low, low_under, sweep_under}

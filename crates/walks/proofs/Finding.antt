@@ -2,7 +2,7 @@
 use Rattle.std.proofs.Common.{◌≡◌, ℕ, zero, suc, ◌<◌, ◌≤◌, Bool, true, false, cond, ◌&&◌, eqb, leb, List, [], ◌∷◌, Some, None, Option, sym, refl, ap, subst, inl, inr, arith}
 use Rattle.std.proofs.lemmas.Bool.Decides.{leb_tells, nat_tests}
 use Rattle.model.specs.declared.words.Record.{Record}
-use Rattle.model.specs.Records.{record_of, stands, After, Ascending, or_else, record_at, newest, mark}
+use Rattle.model.specs.Records.{record_of, stands, After, Ascending, record_at, newest, mark}
 use Rattle.model.specs.Versions.{number_under}
 use Rattle.model.specs.Sweeping.{low_under}
 use Rattle.model.proofs.Newest.{none_at, newest_gap}

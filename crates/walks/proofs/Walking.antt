@@ -1,5 +1,5 @@
 -- One turn of a read's walk, and its end. Assumes nothing.
-use Rattle.std.proofs.Common.{◌≡◌, ℕ, ◌<◌, Bool, true, false, cond, ltb, List, [], Some, None, Ok, Err, Option, Result, sym, refl, ap, ◌∙◌, subst}
+use Rattle.std.proofs.Common.{◌≡◌, ℕ, ◌<◌, Bool, true, false, cond, ltb, [], Some, None, Ok, Err, Option, Result, sym, refl, ap, ◌∙◌, subst}
 use Rattle.model.specs.declared.words.Record.{Record}
 use Rattle.model.specs.declared.words.CommitEntry.{CommitEntry}
 use Rattle.model.specs.declared.words.CommitEntry.TheVariants.{Committed, Aborted}

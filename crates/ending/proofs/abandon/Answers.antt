@@ -1,4 +1,4 @@
-use Rattle.std.proofs.Common.{◌≡◌, sym, refl, ap, ◌∙◌}
+use Rattle.std.proofs.Common.{sym, refl, ap, ◌∙◌}
 use Rattle.model.specs.declared.call.Answer.TheVariants.{Number}
 use Rattle.model.specs.Versions.{drop_pending_all, count_pending_all}
 use Rattle.engine.proofs.Agreement.{same, same_sizes}

@@ -1,4 +1,4 @@
-use Rattle.std.proofs.Common.{◌≡◌, length, sym, refl, ap, ◌∙◌}
+use Rattle.std.proofs.Common.{length, sym, refl, ap, ◌∙◌}
 use Rattle.model.specs.declared.call.Answer.TheVariants.{Number}
 use Rattle.model.specs.Stamping.{row_gone, stamp_records}
 use Rattle.versions.specs.Meaning.{numbers_of, with_versions}

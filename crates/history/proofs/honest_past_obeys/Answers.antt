@@ -14,7 +14,7 @@ use Rattle.model.proofs.Computing.{answers_are, first_answer}
 use Rattle.history.specs.Past.{Past, answered}
 use Rattle.model.specs.After.{after}
 use Rattle.history.specs.Law.{Lawful, past_of}
-use Rattle.history.specs.Honest.{honest, calls_of, largest_database, Honest}
+use Rattle.history.specs.Honest.{honest, calls_of, largest_database}
 use Rattle.history.proofs.Theorem.{history}
 use Rattle.history.proofs.honest_past_obeys.Goals as goal
 

@@ -1,4 +1,4 @@
-use Rattle.std.proofs.Common.{◌≡◌, sym, refl, ap, ◌∙◌}
+use Rattle.std.proofs.Common.{sym, refl, ap, ◌∙◌}
 use Rattle.model.specs.declared.call.Answer.TheVariants.{Number}
 use Rattle.table.specs.Meaning.{entries}
 use Rattle.manager.specs.Meaning.{numbers}

@@ -1,4 +1,4 @@
-use Rattle.std.proofs.Common.{◌≡◌, sym, refl, ap, ◌∙◌}
+use Rattle.std.proofs.Common.{sym, refl, ◌∙◌}
 use Rattle.engine.specs.Meaning.{database}
 use Rattle.engine.proofs.Agreement.{same, same_sizes}
 use Rattle.versions.specs.Meaning.{numbers_of}

@@ -1,11 +1,11 @@
-use Rattle.std.proofs.Common.{◌≡◌, ℕ, Bool, true, false, cond, ltb, List, length, Some, None, Ok, Err, Option, sym, refl, ap, ◌∙◌, arith}
+use Rattle.std.proofs.Common.{◌≡◌, ℕ, Bool, true, false, cond, ltb, List, length, Some, None, Ok, Err, Option, sym, ap, ◌∙◌, arith}
 use Rattle.model.specs.declared.words.CommitEntry.{CommitEntry}
 use Rattle.model.specs.declared.words.CommitEntry.TheVariants.{Committed, Aborted}
 use Rattle.model.specs.declared.refusal.Refusal.TheVariants.{EntriesFull, EntryAborted}
 use Rattle.model.specs.Maps.{look_up, enter}
 use Rattle.commit_table.specs.Placing.{PlacingOutcome, placing, place_at}
 use Rattle.commit_table.specs.declared.Placing.TheVariants.{Placed, Stands, Full}
-use Rattle.settling.specs.Committing.{Committing, committing, commit_at}
+use Rattle.settling.specs.Committing.{committing, commit_at}
 use Rattle.settling.proofs.commit.Goals as goal
 
 module _ (n id c : ℕ) (l x : List (ℕ × CommitEntry)) where

@@ -1,5 +1,4 @@
-use Rattle.std.proofs.Common.{◌≡◌, ℕ, ◌-◌, ◌<◌, ◌≤◌, length, take, drop, sym, refl, ap, ◌∙◌, arith, length-drop, length-take, rules}
-use Rattle.model.specs.declared.call.Answer.TheVariants.{Number}
+use Rattle.std.proofs.Common.{◌≡◌, ◌<◌, length, take, sym, refl, ap, ◌∙◌, arith, length-drop, length-take, rules}
 use Rattle.engine.proofs.Agreement.{same, same_sizes}
 use Rattle.engine.proofs.RowTables.{put_there}
 use Rattle.settling.proofs.Exits.{stamp_no_row, stamp_phase, stamp_none, stamp_last, stamp_more}

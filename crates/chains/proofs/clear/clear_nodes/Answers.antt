@@ -1,4 +1,4 @@
-use Rattle.std.proofs.Common.{sym, refl, ap, ◌∙◌, arith}
+use Rattle.std.proofs.Common.{refl, arith}
 use Rattle.chains.proofs.Calling.{free_more}
 use Rattle.chains.proofs.clear.clear_nodes.Goals as goal
 

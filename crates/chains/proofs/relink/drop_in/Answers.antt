@@ -1,6 +1,6 @@
 use Rattle.std.proofs.Common.{sym, refl, ap, ◌∙◌}
 use Rattle.model.specs.Records.{drop_record}
-use Rattle.chains.specs.Links.{canon, col, key_of, version_of}
+use Rattle.chains.specs.Links.{canon, col, version_of}
 use Rattle.version_store.proofs.Lookups.{drop_none}
 use Rattle.chains.proofs.Walking.{absent_look}
 use Rattle.chains.proofs.Calling.{standing_has, absent_has}

@@ -1,4 +1,4 @@
-use Rattle.std.proofs.Common.{length, sym, refl, ap, ◌∙◌, arith}
+use Rattle.std.proofs.Common.{length, ap, ◌∙◌, arith}
 use Rattle.chains.proofs.Walking.{class_below}
 use Rattle.chains.proofs.Relinking.{spare_in, link_all}
 use Rattle.chains.proofs.relink.link.Goals as goal

@@ -1,5 +1,4 @@
-use Rattle.std.proofs.Common.{get_or, set, sym, refl, subst, arith}
-use Rattle.chains.specs.Links.{Redirected}
+use Rattle.std.proofs.Common.{refl, arith}
 use Rattle.chains.proofs.Relinking.{redirected_read, redirected_head}
 use Rattle.chains.proofs.relink.redirect.Goals as goal
 

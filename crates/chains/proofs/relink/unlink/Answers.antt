@@ -1,5 +1,4 @@
-use Rattle.std.proofs.Common.{length, sym, refl, ap, ◌∙◌, arith}
-use Rattle.std.proofs.lemmas.List.{length-set}
+use Rattle.std.proofs.Common.{◌∙◌, arith}
 use Rattle.chains.proofs.Relinking.{unlink_in, unlink_all, unlink_room}
 use Rattle.chains.proofs.relink.unlink.Goals as goal
 

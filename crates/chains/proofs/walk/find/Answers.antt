@@ -1,7 +1,6 @@
-use Rattle.std.proofs.Common.{sym, ◌∙◌, arith}
+use Rattle.std.proofs.Common.{sym, arith}
 use Rattle.std.proofs.lemmas.Bool.{ltb-true, ltb-false, eqb-false}
 use Rattle.chains.specs.Links.{tag, tag_of}
-use Rattle.chains.proofs.Canon.{col_read}
 use Rattle.chains.proofs.Walking.{found_at, below_from, walk_on, walk_less, walked_chain}
 use Rattle.chains.proofs.walk.find.Goals as goal
 

@@ -1,5 +1,5 @@
-use Rattle.std.proofs.Common.{sym, ◌∙◌, arith}
-use Rattle.chains.proofs.Walking.{toward_start, toward_on, newest_found, newest_ended, walk_less}
+use Rattle.std.proofs.Common.{sym, arith}
+use Rattle.chains.proofs.Walking.{toward_on, newest_found, newest_ended, walk_less}
 use Rattle.chains.proofs.walk.newest_in.Goals as goal
 
 pub returns-then-is_in_reach : goal.returns-then-is_in_reach

@@ -1,4 +1,4 @@
-use Rattle.std.proofs.Common.{◌≡◌, length, take}
+use Rattle.std.proofs.Common.{◌≡◌, take}
 use Rattle.model.specs.After.{after}
 use Rattle.engine.specs.Meaning.{database}
 use Rattle.database.specs.Running.{answers_to}

@@ -1,4 +1,3 @@
-use Rattle.std.proofs.Common.{rules}
 use Rattle.database.proofs.Turns.{ran}
 use Rattle.database.proofs.running.run.Goals as goal
 

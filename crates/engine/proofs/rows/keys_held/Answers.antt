@@ -1,4 +1,4 @@
-use Rattle.std.proofs.Common.{◌≡◌, ◌-◌, length, refl, arith, rules}
+use Rattle.std.proofs.Common.{◌≡◌, length, arith, rules}
 use Rattle.engine.proofs.HeldKeys.{left_is}
 use Rattle.engine.proofs.rows.keys_held.Goals as goal
 

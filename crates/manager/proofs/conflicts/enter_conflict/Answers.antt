@@ -1,5 +1,4 @@
-use Rattle.std.proofs.Common.{◌≡◌, true, ◌||◌, ltb, length, sym, refl, ap, ◌∙◌}
-use Rattle.model.specs.Maps.{is_there, look_up}
+use Rattle.std.proofs.Common.{ap, ◌∙◌}
 use Rattle.model.specs.Managers.{conflict_table}
 use Rattle.table.specs.Meaning.{entries, capacity, insert_entries, insert_answer}
 use Rattle.manager.proofs.Forgetting.{inserts, enters}

@@ -1,4 +1,4 @@
-use Rattle.std.proofs.Common.{◌≡◌, ◌+◌, get_or, drop, sym, refl, ap, ◌∙◌}
+use Rattle.std.proofs.Common.{◌+◌, get_or, drop, sym, refl, ap, ◌∙◌}
 use Rattle.model.specs.Managers.{conflict_table, enter_conflict, enter_conflicts}
 use Rattle.table.specs.Meaning.{entries, capacity}
 use Rattle.manager.proofs.Forgetting.{entering_more, entering_all}

@@ -1,4 +1,4 @@
-use Rattle.std.proofs.Common.{◌≡◌, ℕ, ◌<◌, ◌≤◌, get_or, sym, refl, ◌∙◌, arith}
+use Rattle.std.proofs.Common.{◌<◌, ◌≤◌, get_or, sym, refl, ◌∙◌, arith}
 use Rattle.model.specs.Maps.{number_or_0, look_up}
 use Rattle.table.specs.Meaning.{entries}
 use Rattle.manager.proofs.Forgetting.{conflict_here, conflict_more, conflict_none}

@@ -1,4 +1,4 @@
-use Rattle.std.proofs.Common.{◌≡◌, ℕ, suc, ◌-◌, ◌≤◌, length, drop, sym, refl, ap, ◌∙◌, arith}
+use Rattle.std.proofs.Common.{◌≡◌, suc, ◌-◌, ◌≤◌, length, drop, sym, ap, ◌∙◌, arith}
 use Rattle.model.specs.Managers.{least_entry}
 use Rattle.table.specs.Meaning.{entries, at, pair_in}
 use Rattle.manager.specs.Conflicts.{lesser_in}

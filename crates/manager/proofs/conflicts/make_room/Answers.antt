@@ -1,4 +1,4 @@
-use Rattle.std.proofs.Common.{◌≡◌, ℕ, ◌<◌, ◌≤◌, max, true, ◌||◌, ltb, length, Some, None, sym, refl, ap, ◌∙◌, arith, length-take}
+use Rattle.std.proofs.Common.{◌<◌, ◌≤◌, max, ltb, length, sym, refl, ap, ◌∙◌, arith, length-take}
 use Rattle.std.proofs.lemmas.Bool.{lt-ltb, or_left, or_right}
 use Rattle.model.specs.Maps.{is_there, number_or_0, look_up, remove}
 use Rattle.model.specs.Managers.{conflict_table}

@@ -1,6 +1,5 @@
 use Rattle.std.proofs.Common.{◌||◌, None, sym, ap, ◌∙◌}
 use Rattle.model.specs.Versions.{pending_among, greatest_among}
-use Rattle.versions.specs.Meaning.{greatest_of}
 use Rattle.versions.proofs.Going.{from, met_first, from_first, met_next, height_less, pending_more, greatest_more, pending_all, greatest_all}
 use Rattle.versions.proofs.questions.summary.Goals as goal
 

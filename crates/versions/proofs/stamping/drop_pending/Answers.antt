@@ -1,4 +1,4 @@
-use Rattle.std.proofs.Common.{◌≡◌, Bool, true, false, cond, sym, refl, ap, ◌∙◌}
+use Rattle.std.proofs.Common.{◌≡◌, true, false, cond, sym, refl, ap, ◌∙◌}
 use Rattle.model.specs.Maps.{is_there}
 use Rattle.model.specs.Records.{record_at, drop_record}
 use Rattle.model.specs.Versions.{is_pending, is_pending_record}

@@ -1,4 +1,4 @@
-use Rattle.std.proofs.Common.{◌≡◌, ℕ, ◌+◌, ◌≤◌, true, false, get_or, drop, sym, refl, ap, ◌∙◌, arith}
+use Rattle.std.proofs.Common.{◌≡◌, ◌+◌, get_or, drop, sym, refl, ap, ◌∙◌, arith}
 use Rattle.model.specs.Records.{record_at}
 use Rattle.model.specs.Versions.{is_pending_record, one_if, drop_pending, drop_pending_all, count_pending_all}
 use Rattle.versions.proofs.Keys.{drop_more, drop_all, count_more, count_all}

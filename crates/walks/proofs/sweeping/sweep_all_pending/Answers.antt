@@ -1,4 +1,4 @@
-use Rattle.std.proofs.Common.{◌≡◌, ℕ, ◌+◌, ◌-◌, ◌≤◌, sym, refl, ap, ◌∙◌, ap₂, arith}
+use Rattle.std.proofs.Common.{◌≡◌, ◌+◌, ◌-◌, ◌≤◌, sym, refl, ap, ◌∙◌, ap₂, arith}
 use Rattle.model.specs.Numbers.{last_number}
 use Rattle.model.specs.Records.{count}
 use Rattle.model.specs.Sweeping.{sweep_down}

@@ -1,4 +1,4 @@
-use Rattle.std.proofs.Common.{sym, arith}
+use Rattle.std.proofs.Common.{sym}
 use Rattle.shelf.proofs.Shelves.{ranked_in, found_none, found_hit, found_miss}
 use Rattle.shelf.proofs.shelf.Shelf.find.Goals as goal
 
