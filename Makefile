@@ -1,8 +1,7 @@
 run:
-	rt check yophazidu
-	./target/bin/yophazidu
+	cd crates/yophazidu && rt run
 
 test:
-	rt ci
+	.ci/run
 
 .PHONY: run test

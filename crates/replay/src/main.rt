@@ -4,14 +4,14 @@
 
 mod cards;
 mod hosts;
-mod reading;
+mod parsing;
 mod runs;
 
 use anyhow::anyhow;
 use cards::CARDS;
 use hosts::{Pair, run_on};
 use model::{Answer, Call};
-use reading::call_of;
+use parsing::call_of;
 use runs::{RUNS, Run};
 use std::alloc::Global;
 use std::fs;
