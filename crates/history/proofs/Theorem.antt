@@ -11,7 +11,7 @@ use Rattle.model.specs.Step.{step}
 use Rattle.history.specs.Past.{In, began, read_answered, effect, AnsweredRead, summary}
 use Rattle.history.proofs.Summaries.{Commit, Summary, with_effect, empty_summary, summary_from, bare, plains, summary_is, ordered_plains}
 use Rattle.history.proofs.Facts.{bound, Sound}
-use lib.ListN.{get_or-replicate}
+use Rattle.std.proofs.Math.ListN.{get_or-replicate}
 use Rattle.model.specs.declared.call.Call.{Call}
 use Rattle.model.specs.declared.call.Call.TheVariants.{Begin, Read}
 use Rattle.model.specs.declared.call.Answer.{Answer}

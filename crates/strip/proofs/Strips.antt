@@ -1,6 +1,6 @@
 -- The bytes of a strip-bytes before and after a call.
-use Rattle.std.proofs.Common.{◌≡◌, ℕ, zero, suc, ◌+◌, ◌-◌, ◌*◌, ◌/◌, ◌<◌, ◌≤◌, List, [], ◌∷◌, ◌++◌, length, get_or, take, drop, set, replicate, sym, refl, ap, ◌∙◌, append_assoc, append-nil, arith}
-use lib.Seq.{split_at}
+use Rattle.std.proofs.Common.{◌≡◌, ℕ, zero, suc, ◌+◌, ◌-◌, ◌*◌, ◌/◌, ◌<◌, ◌≤◌, List, [], ◌∷◌, ◌++◌, length, get_or, take, drop, set, replicate, sym, refl, ap, ◌∙◌, arith}
+use Rattle.std.proofs.Math.Seq.{split_at}
 use Rattle.std.proofs.lemmas.List.{length-append, length-replicate, length-set, length-take-le, take_at, drop_at, drop_all, append_assoc, append-nil, replicate-append-replicate, set_split}
 use Rattle.strip.specs.Bodies.{filled}
 use Rattle.strip.proofs.Filled.{length_filled}

@@ -1,6 +1,5 @@
 -- What the reference step gives on a sweep.
-use Prim.Native.Nat.{ℕ}
-use mathlib.Core.Path.{◌≡◌, refl}
+use Rattle.std.proofs.Common.{◌≡◌, ℕ, refl}
 use Rattle.model.specs.declared.call.Call.TheVariants.{Sweep}
 use Rattle.model.specs.Versions.{versions}
 use Rattle.model.specs.State.{State}

@@ -1,4 +1,4 @@
-use mathlib.Core.Path.{refl, sym, ◌∙◌}
+use Rattle.std.proofs.Common.{refl, sym, ◌∙◌}
 use Rattle.engine.specs.Meaning.{database}
 use Rattle.engine.proofs.Agreement.{same, same_sizes}
 use Rattle.versions.specs.Meaning.{numbers_of}
