@@ -3,7 +3,7 @@ use Rattle.std.proofs.Common.{◌≡◌, ℕ, ◌+◌, ◌-◌, ◌<◌, ◌≤�
 use Rattle.std.proofs.lemmas.List.{length-take-le, length-set, length-drop, length-append, drop-set-lt, take_at, drop_at, drop-drop, take-append-drop, drop-append-le}
 use Rattle.std.proofs.lemmas.List.Edits.{length-insert, length-remove}
 use Rattle.std.proofs.lemmas.Bool.{lt-ltb, le-ltb}
-use Rattle.std.specs.List.{insert as inserted-at, remove as removed-at}
+use Rattle.std.specs.List.{insert as inserted_at, remove as removed_at}
 use Rattle.model.specs.Maps.{is_there, look_up, enter, remove}
 use Rattle.table.specs.declared.table.Entry.{Entry}
 use Rattle.table.specs.declared.table.Inserted.TheVariants.{Added, Replaced, Full}
@@ -64,18 +64,18 @@ pub record Grew {V : Type 0} (s ys : List (Entry V)) (n : ℕ) (e : Entry V) : T
   pub rest : drop (n + 1) ys ≡ drop 1 (drop n s)
   pub kept : length ys ≡ length s
 
-pub grew : {V : Type 0} (s ys : List (Entry V)) (n : ℕ) (e : Entry V) (p : ℕ) → n < length s → Miss (take n s) e.tag p → ys ≡ inserted-at (take n s) p e ++ drop (n + 1) s → Grew s ys n e
+pub grew : {V : Type 0} (s ys : List (Entry V)) (n : ℕ) (e : Entry V) (p : ℕ) → n < length s → Miss (take n s) e.tag p → ys ≡ inserted_at (take n s) p e ++ drop (n + 1) s → Grew s ys n e
 grew s ys n e p lt m is =
     let long = length-take-le n s (omega arith) in
     let pairs_long = length_pairs (take n s) in
     let in_p = m.inside in
     let in_long = length-insert (take n s) p e in_p in
     let drop_long = length-drop (n + 1) s in
-    let all_long = length-append (inserted-at (take n s) p e) (drop (n + 1) s) in
+    let all_long = length-append (inserted_at (take n s) p e) (drop (n + 1) s) in
     record {
       answer = rw (miss_there (take n s) e.tag p m, lt-ltb (length (pairs (take n s))) (length s) (omega arith)) refl;
-      after = ap (λ z. pairs (take (n + 1) z)) is ∙ ap pairs (take_at (inserted-at (take n s) p e) (drop (n + 1) s) (n + 1) (omega arith)) ∙ enter_none (take n s) p e in_p m.below m.above;
-      rest = ap (drop (n + 1)) is ∙ drop_at (inserted-at (take n s) p e) (drop (n + 1) s) (n + 1) (omega arith) ∙ sym (drop-drop 1 n s);
+      after = ap (λ z. pairs (take (n + 1) z)) is ∙ ap pairs (take_at (inserted_at (take n s) p e) (drop (n + 1) s) (n + 1) (omega arith)) ∙ enter_none (take n s) p e in_p m.below m.above;
+      rest = ap (drop (n + 1)) is ∙ drop_at (inserted_at (take n s) p e) (drop (n + 1) s) (n + 1) (omega arith) ∙ sym (drop-drop 1 n s);
       kept = ap length is ∙ omega arith;
     }
 
@@ -86,20 +86,20 @@ pub record Shrunk {V : Type 0} (s ys : List (Entry V)) (n t : ℕ) : Type 0 wher
   pub rest : drop (n - 1) ys ≡ last (take n s) ++ drop n s
   pub kept : length ys ≡ length s
 
-pub shrunk : {V : Type 0} (s ys : List (Entry V)) (n t p : ℕ) → n ≤ length s → Ascending (take n s) → Hit (take n s) t p → ys ≡ removed-at (take n s) p ++ drop (n - 1) s → Shrunk s ys n t
+pub shrunk : {V : Type 0} (s ys : List (Entry V)) (n t p : ℕ) → n ≤ length s → Ascending (take n s) → Hit (take n s) t p → ys ≡ removed_at (take n s) p ++ drop (n - 1) s → Shrunk s ys n t
 shrunk s ys n t p le up h is =
     let long = length-take-le n s le in
     let in_p = h.inside in
     let in_long = length-remove (take n s) p in_p in
     let drop_long = length-drop (n - 1) s in
-    let all_long = length-append (removed-at (take n s) p) (drop (n - 1) s) in
+    let all_long = length-append (removed_at (take n s) p) (drop (n - 1) s) in
     record {
       answer = sym (hit_there (take n s) t p h);
-      after = ap (λ z. pairs (take (n - 1) z)) is ∙ ap pairs (take_at (removed-at (take n s) p) (drop (n - 1) s) (n - 1) (omega arith)) ∙ remove_hit (take n s) t p up h;
-      rest = ap (drop (n - 1)) is ∙ drop_at (removed-at (take n s) p) (drop (n - 1) s) (n - 1) (omega arith) ∙ sym (ap (drop (n - 1)) (take-append-drop n s)) ∙ drop-append-le (n - 1) (take n s) (drop n s) (omega arith) ∙ ap (λ m. drop (m - 1) (take n s) ++ drop n s) (sym long);
+      after = ap (λ z. pairs (take (n - 1) z)) is ∙ ap pairs (take_at (removed_at (take n s) p) (drop (n - 1) s) (n - 1) (omega arith)) ∙ remove_hit (take n s) t p up h;
+      rest = ap (drop (n - 1)) is ∙ drop_at (removed_at (take n s) p) (drop (n - 1) s) (n - 1) (omega arith) ∙ sym (ap (drop (n - 1)) (take-append-drop n s)) ∙ drop-append-le (n - 1) (take n s) (drop n s) (omega arith) ∙ ap (λ m. drop (m - 1) (take n s) ++ drop n s) (sym long);
       kept = ap length is ∙ omega arith;
     }
   where
-    remove_hit : {V : Type 0} (es : List (Entry V)) (t p : ℕ) → Ascending es → Hit es t p → pairs (removed-at es p) ≡ remove t (pairs es)
+    remove_hit : {V : Type 0} (es : List (Entry V)) (t p : ℕ) → Ascending es → Hit es t p → pairs (removed_at es p) ≡ remove t (pairs es)
     remove_hit [] t p up h = absurd (let u = h.inside in omega arith)
     remove_hit (x ∷ es) t p up h = remove_some (x ∷ es) p t x up h.below h.inside (h.equal x)

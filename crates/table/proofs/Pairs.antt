@@ -1,7 +1,7 @@
 -- The places of the memory as the map that they mean: what a search finds, in the words of maps.
 use Rattle.std.proofs.Common.{◌≡◌, ℕ, zero, suc, ◌<◌, ◌≤◌, ◌≢◌, List, [], ◌∷◌, length, get_or, set, Some, None, sym, refl, ap, ⊎_elim, arith}
 use Rattle.std.proofs.lemmas.Bool.{cases_lt, eq-eqb, ne_eqb, lt-ltb, le-ltb}
-use Rattle.std.specs.List.{insert as inserted-at, remove as removed-at}
+use Rattle.std.specs.List.{insert as inserted_at, remove as removed_at}
 use Rattle.model.specs.Maps.{look_up, enter, remove, Above, Rising}
 use Rattle.table.specs.declared.table.Entry.{Entry}
 use Rattle.table.specs.Order.{Ascending, Below, Miss}
@@ -57,7 +57,7 @@ module _ {V : Type 0} where
   tail_below : (x : Entry V) (es : List (Entry V)) (p t : ℕ) → Below (x ∷ es) (suc p) t → Below es p t
   tail_below x es p t h k d l = h (suc k) d (omega arith)
 
-  pub enter_none : (es : List (Entry V)) (p : ℕ) (e : Entry V) → p ≤ length es → Below es p e.tag → ((k : ℕ) (d : Entry V) → p ≤ k → k < length es → e.tag < (get_or es k d).tag) → pairs (inserted-at es p e) ≡ enter e.tag e.value (pairs es)
+  pub enter_none : (es : List (Entry V)) (p : ℕ) (e : Entry V) → p ≤ length es → Below es p e.tag → ((k : ℕ) (d : Entry V) → p ≤ k → k < length es → e.tag < (get_or es k d).tag) → pairs (inserted_at es p e) ≡ enter e.tag e.value (pairs es)
   unfolding enter
   enter_none [] zero e l h a = refl
   enter_none [] (suc p) e l h a = absurd (omega arith)
@@ -88,7 +88,7 @@ module _ {V : Type 0} where
       rw (ne_eqb e.tag x.tag (λ z. omega arith), le-ltb e.tag x.tag (omega arith))
       (ap (λ l. pair_of x ∷ l) (enter_some es p e d (tail_below x es p e.tag h) (omega arith) q))
 
-  pub remove_some : (es : List (Entry V)) (p t : ℕ) (d : Entry V) → Ascending es → Below es p t → p < length es → (get_or es p d).tag ≡ t → pairs (removed-at es p) ≡ remove t (pairs es)
+  pub remove_some : (es : List (Entry V)) (p t : ℕ) (d : Entry V) → Ascending es → Below es p t → p < length es → (get_or es p d).tag ≡ t → pairs (removed_at es p) ≡ remove t (pairs es)
   unfolding remove
   remove_some [] p t d up h l e = absurd (omega arith)
   remove_some (x ∷ es) zero t d up h l e = rw (eq-eqb t x.tag (sym e)) (sym (remove_none es t (λ k f m q. let u = up 0 (suc k) f (omega arith, omega arith) in omega arith)))
