@@ -4,61 +4,26 @@
 
 mod task;
 
-use crate::task::run;
-use chains::{ChainsMemory, Node};
+use chains::{Chains, Node};
 use model::{PriceCard, Record, Refusal};
-use shelf::ShelfMemory;
+use shelf::Shelf;
 use std::alloc::{AllocError, Global};
 use std::{fmt, io};
+use task::run;
+use version_store::VersionStore;
 
-/// What the task says on one store, or why the store was not made.
-type Told = Result<String, AllocError>;
-
-fn refused(heap: Global, why: Refusal) -> Told {
-    format!(in heap; "refused: {why}\n")
-}
-
-/// The task on a shelf over the first so many places.
-fn on_shelf<V: Copy + fmt::Debug>(
+/// What the task wrote down on the store, or why the store was not made.
+fn written<S: VersionStore + Drop>(
     heap: Global,
-    records: &mut [Record<V>],
-    index: &mut [u16],
-    places: usize,
-    values: (V, V),
-) -> Told {
-    let n = places.min(records.len()).min(index.len());
-    match ShelfMemory::lent(&mut records[..n], &mut index[..n]) {
-        Ok(memory) => {
-            let mut shelf = memory.shelf();
-            run(heap, &mut shelf, values.0, values.1)
-        }
-        Err(why) => refused(heap, why),
-    }
-}
-
-/// The task on chains over the first so many nodes.
-fn on_chains<V: Copy + fmt::Debug>(
-    heap: Global,
-    nodes: &mut [Node<V>],
-    places: usize,
-    values: (V, V),
-) -> Told {
-    let n = places.min(nodes.len());
-    match ChainsMemory::lent(&mut nodes[..n]) {
-        Ok(memory) => {
-            let mut chains = memory.chains();
-            run(heap, &mut chains, values.0, values.1)
-        }
-        Err(why) => refused(heap, why),
-    }
-}
-
-fn blank<V: Copy>(value: V) -> Record<V> {
-    Record {
-        key: 0,
-        version: 0,
-        number: None,
-        value,
+    made: Result<S, Refusal>,
+    values: (S::Value, S::Value),
+) -> Result<String, AllocError>
+where
+    S::Value: fmt::Debug,
+{
+    match made {
+        Ok(mut store) => run(heap, &mut store, values.0, values.1),
+        Err(why) => format!(in heap; "refused: {why}\n"),
     }
 }
 
@@ -66,53 +31,60 @@ fn compare(
     rt: &HostRuntime,
     title: &str,
     places: usize,
-    shelf: &String,
-    chains: &String,
+    shelf: &str,
+    chains: &str,
 ) -> io::Result<()> {
     println!(rt; "{title}, {places} places")?;
     print!(rt; "{shelf}")?;
-    if shelf.as_str() == chains.as_str() {
+    if shelf == chains {
         return println!(rt; "shelf and chains say the same");
     }
     println!(rt; "the chains differ:")?;
     print!(rt; "{chains}")
 }
 
-fn counts(rt: &HostRuntime, places: usize) -> io::Result<()> {
-    let mut records = [blank(0i64); 4097];
-    let mut index = [0u16; 4097];
-    let mut nodes = [Node::blank(blank(0i64)); 4097];
-    let shelf = on_shelf(rt.alloc(), &mut records, &mut index, places, (-5, 12))?;
-    let chains = on_chains(rt.alloc(), &mut nodes, places, (-5, 12))?;
-    compare(rt, "counts", places, &shelf, &chains)
+/// The task on a shelf and on chains with so many places, with two values of one kind.
+fn on_both<V: Copy + fmt::Debug>(
+    rt: &HostRuntime,
+    title: &str,
+    places: usize,
+    values: (V, V),
+) -> io::Result<()> {
+    let heap = rt.alloc();
+    let unused = Record {
+        key: 0,
+        version: 0,
+        number: None,
+        value: values.0,
+    };
+    let mut records = vec![in heap; unused; places]?;
+    let mut index = vec![in heap; 0u16; places]?;
+    let mut nodes = vec![in heap; Node::blank(); places]?;
+    let shelf = Shelf::over(records.as_mut_slice(), index.as_mut_slice());
+    let on_shelf = written(heap, shelf, values)?;
+    let chains = Chains::over(nodes.as_mut_slice());
+    let on_chains = written(heap, chains, values)?;
+    compare(rt, title, places, on_shelf.as_str(), on_chains.as_str())
 }
 
-fn card(cents: u32, first_day: u32) -> PriceCard {
-    PriceCard {
-        cents,
-        tax_class: 2,
-        first_day,
-    }
-}
+const DEAR: PriceCard = PriceCard {
+    cents: 1999,
+    tax_class: 2,
+    first_day: 20100,
+};
 
-fn cards(rt: &HostRuntime, places: usize) -> io::Result<()> {
-    let dear = card(1999, 20100);
-    let cheap = card(999, 20200);
-    let mut records = [blank(dear); 4097];
-    let mut index = [0u16; 4097];
-    let mut nodes = [Node::blank(blank(dear)); 4097];
-    let shelf = on_shelf(rt.alloc(), &mut records, &mut index, places, (dear, cheap))?;
-    let chains = on_chains(rt.alloc(), &mut nodes, places, (dear, cheap))?;
-    compare(rt, "price cards", places, &shelf, &chains)
-}
+const CHEAP: PriceCard = PriceCard {
+    cents: 999,
+    tax_class: 2,
+    first_day: 20200,
+};
 
 fn main(rt: HostRuntime) -> io::Result<()> {
-    counts(&rt, 0)?;
-    counts(&rt, 1)?;
-    counts(&rt, 8)?;
-    counts(&rt, 4096)?;
-    counts(&rt, 4097)?;
-    cards(&rt, 1)?;
-    cards(&rt, 8)?;
-    cards(&rt, 4096)
+    for places in [0, 1, 8, 4096, 4097] {
+        on_both(&rt, "counts", places, (-5i64, 12))?;
+    }
+    for places in [1, 8, 4096] {
+        on_both(&rt, "price cards", places, (DEAR, CHEAP))?;
+    }
+    Ok(())
 }

@@ -42,85 +42,62 @@ fn pending<V: Copy>(key: u64, version: u64, value: V) -> Record<V> {
     }
 }
 
-fn put<S: VersionStore>(
-    heap: Global,
-    log: &mut String,
-    store: &mut S,
-    key: u64,
-    version: u64,
-    value: S::Value,
-) -> Result<(), AllocError> {
-    let said = match store.put(&pending(key, version, value)) {
-        Ok(()) => "done",
-        Err(_) => "full",
-    };
-    log.push_str(&format!(in heap; "put {key} {version}: {said}\n")?)
+/// A store, and what its calls answered so far.
+#[derive(Drop)]
+struct Task<'a, S> {
+    store: &'a mut S,
+    log: String,
 }
 
-fn look<S: VersionStore>(
-    heap: Global,
-    log: &mut String,
-    store: &S,
-    key: u64,
-    bound: u64,
-) -> Result<(), AllocError>
+impl<S: VersionStore> Task<'_, S>
 where
     S::Value: fmt::Debug,
 {
-    let line = match store.newest(key, bound) {
-        None => format!(in heap; "newest {key} up to {bound}: none\n")?,
-        Some(r) => {
-            let version = r.version;
-            let number = r.number;
-            let value = r.value;
-            format!(in heap;
-                "newest {key} up to {bound}: version {version}, number {number:?}, {value:?}\n"
-            )?
-        }
-    };
-    log.push_str(&line)
-}
-
-fn mark<S: VersionStore>(
-    heap: Global,
-    log: &mut String,
-    store: &mut S,
-    key: u64,
-    version: u64,
-    number: u64,
-) -> Result<(), AllocError> {
-    let there = store.mark(key, version, number);
-    log.push_str(&format!(in heap; "mark {key} {version} with {number}: {there}\n")?)
-}
-
-fn drop_record<S: VersionStore>(
-    heap: Global,
-    log: &mut String,
-    store: &mut S,
-    key: u64,
-    version: u64,
-) -> Result<(), AllocError> {
-    let there = store.drop_record(key, version);
-    log.push_str(&format!(in heap; "drop {key} {version}: {there}\n")?)
-}
-
-/// Puts records of many keys until the store is full.
-fn fill<S: VersionStore>(
-    heap: Global,
-    log: &mut String,
-    store: &mut S,
-    value: S::Value,
-) -> Result<(), AllocError> {
-    let mut added: u64 = 0;
-    for i in 0..5000u64 {
-        if store.put(&pending(1000 + i * 37 % 500, i, value)).is_err() {
-            break;
-        }
-        added = i + 1;
+    fn put(&mut self, key: u64, version: u64, value: S::Value) -> Result<(), AllocError> {
+        let said = match self.store.put(&pending(key, version, value)) {
+            Ok(()) => "done",
+            Err(_) => "full",
+        };
+        writeln!(self.log, "put {key} {version}: {said}")
     }
-    let count = store.count();
-    let capacity = store.capacity();
-    log.push_str(&format!(in heap; "filled with {added} more: {count} of {capacity}\n")?)
+
+    fn look(&mut self, key: u64, bound: u64) -> Result<(), AllocError> {
+        match self.store.newest(key, bound) {
+            None => writeln!(self.log, "newest {key} up to {bound}: none"),
+            Some(
+                Record {
+                    version,
+                    number,
+                    value,
+                    ..
+                },
+            ) => writeln!(
+                self.log,
+                "newest {key} up to {bound}: version {version}, number {number:?}, {value:?}"
+            ),
+        }
+    }
+
+    fn mark(&mut self, key: u64, version: u64, number: u64) -> Result<(), AllocError> {
+        let there = self.store.mark(key, version, number);
+        writeln!(self.log, "mark {key} {version} with {number}: {there}")
+    }
+
+    fn drop_record(&mut self, key: u64, version: u64) -> Result<(), AllocError> {
+        let there = self.store.drop_record(key, version);
+        writeln!(self.log, "drop {key} {version}: {there}")
+    }
+
+    /// Puts records of many keys until the store is full.
+    fn fill(&mut self, value: S::Value) -> Result<(), AllocError> {
+        let added = (0..5000u64)
+            .map(|i| pending(1000 + i * 37 % 500, i, value))
+            .take_while(|record| self.store.put(record).is_ok())
+            .count();
+        let count = self.store.count();
+        let capacity = self.store.capacity();
+        writeln!(self.log, "filled with {added} more: {count} of {capacity}")
+    }
 }
 
 pub fn run<S: VersionStore>(
@@ -132,24 +109,27 @@ pub fn run<S: VersionStore>(
 where
     S::Value: fmt::Debug,
 {
-    let mut log = String::new(heap);
+    let mut task = Task {
+        store,
+        log: String::new(heap),
+    };
     for (key, version) in PLACES {
-        put(heap, &mut log, store, key, version, first)?;
+        task.put(key, version, first)?;
     }
-    put(heap, &mut log, store, 9, 1, first)?;
-    put(heap, &mut log, store, 7, 20, second)?;
-    mark(heap, &mut log, store, 7, 10, 40)?;
-    mark(heap, &mut log, store, 7, 11, 40)?;
-    mark(heap, &mut log, store, 71, 20, u64::MAX)?;
+    task.put(9, 1, first)?;
+    task.put(7, 20, second)?;
+    task.mark(7, 10, 40)?;
+    task.mark(7, 11, 40)?;
+    task.mark(71, 20, u64::MAX)?;
     for (key, bound) in LOOKS {
-        look(heap, &mut log, store, key, bound)?;
+        task.look(key, bound)?;
     }
-    drop_record(heap, &mut log, store, 71, 20)?;
-    drop_record(heap, &mut log, store, 71, 20)?;
-    look(heap, &mut log, store, 71, u64::MAX)?;
-    put(heap, &mut log, store, 9, 1, second)?;
-    look(heap, &mut log, store, 9, 1)?;
-    fill(heap, &mut log, store, second)?;
-    look(heap, &mut log, store, 1005, u64::MAX)?;
-    Ok(log)
+    task.drop_record(71, 20)?;
+    task.drop_record(71, 20)?;
+    task.look(71, u64::MAX)?;
+    task.put(9, 1, second)?;
+    task.look(9, 1)?;
+    task.fill(second)?;
+    task.look(1005, u64::MAX)?;
+    Ok(task.log)
 }

@@ -1,24 +1,46 @@
 //! Records in 64 chains over lent nodes.
-ghost use Rattle.std.specs.Prelude.{◌≡◌, ℕ, ◌+◌, ◌<◌, ◌≤◌, true, length};
-ghost use Rattle.version_store.specs.Order.{in_order};
-ghost use Rattle.chains.specs.Links.{HeadIn, HeadTop, NextIn, NextTop, Apart, FreeIn, FreeOnce, Classed, canon, live_count, head_at, col, chain_of, tag_of, next_of, spare_of, key_of};
+ghost use Rattle.std.specs.Prelude.{◌≡◌, [], length, IfOk};
+ghost use Rattle.version_store.specs.Making.{answered, making};
+ghost use Rattle.chains.specs.Links.{Sound};
 
-use crate::memory::ChainsMemory;
+use crate::node::Node;
+use model::Refusal;
 
-/// Chains by key modulo 64, newest version first. The ghost fields say what every call keeps: the facts of `Sound`, and that the records are in order and find room.
+/// Chains by key modulo 64, newest version first. Nothing allocates below a host, so the nodes are lent, and name each other by index. `heads` has the first node of each chain,
+/// `free` is the first of the free nodes, and `spare` says how many they are.
 #[derive(Drop)]
 pub struct Chains<'a, V> {
-    pub(crate) memory: ChainsMemory<'a, V>,
-    ghost wide: { length memory.heads ≡ 64 },
-    ghost starts: { HeadIn (length memory.nodes.now) (col chain_of memory.nodes.now) (head_at memory.heads) },
-    ghost greatest: { HeadTop (length memory.nodes.now) (col chain_of memory.nodes.now) (col tag_of memory.nodes.now) (head_at memory.heads) },
-    ghost steps: { NextIn (length memory.nodes.now) (col chain_of memory.nodes.now) (col tag_of memory.nodes.now) (col next_of memory.nodes.now) },
-    ghost nearest: { NextTop (length memory.nodes.now) (col chain_of memory.nodes.now) (col tag_of memory.nodes.now) (col next_of memory.nodes.now) },
-    ghost apart: { Apart (length memory.nodes.now) (col chain_of memory.nodes.now) (col tag_of memory.nodes.now) },
-    ghost spares: { FreeIn (length memory.nodes.now) memory.free (col chain_of memory.nodes.now) (col spare_of memory.nodes.now) },
-    ghost once: { FreeOnce memory.free (col spare_of memory.nodes.now) },
-    ghost classed: { Classed (length memory.nodes.now) (col chain_of memory.nodes.now) (col key_of memory.nodes.now) },
-    ghost total: { live_count memory.nodes.now + memory.free ≡ length memory.nodes.now },
-    ghost sorted: { in_order (canon memory.nodes.now) ≡ true },
-    ghost held: { length (canon memory.nodes.now) ≤ length memory.nodes.now },
+    pub(crate) nodes: &'a mut [Node<V>],
+    pub(crate) heads: [Option<usize>; 64],
+    pub(crate) free: Option<usize>,
+    pub(crate) spare: usize,
+    ghost sound: { Sound nodes.now heads free spare },
+}
+
+impl<'a, V: Copy> Chains<'a, V> {
+    ghost use Rattle.chains.specs.Meaning.{chained, places};
+
+    /// Chains with no records, over 1 to 4,096 nodes.
+    pub fn over(nodes: &'a mut [Node<V>]) -> Result<Chains<'a, V>, Refusal>
+        ensures answer { answered result ≡ making (length nodes.old) }
+        ensures empty { IfOk result (λ c. chained c ≡ []) }
+        ensures whole { IfOk result (λ c. places c ≡ length nodes.old) }
+    {
+        let places = nodes.len();
+        if !(1..=4096).contains(&places) {
+            return Err(Refusal::OutsideLimits);
+        }
+        let mut free = None;
+        for (i, node) in nodes.iter_mut().enumerate() {
+            node.record = None;
+            node.next = free;
+            free = Some(i);
+        }
+        Ok(Chains {
+            nodes,
+            heads: [None; 64],
+            free,
+            spare: places,
+        })
+    }
 }

@@ -2,12 +2,10 @@
 #![tactic(auto)]
 
 pub mod chains;
-mod clear;
-pub mod memory;
-mod order;
+pub mod node;
 mod relink;
-pub mod store;
+mod store;
 mod walk;
 
 pub use chains::Chains;
-pub use memory::{ChainsMemory, Node};
+pub use node::Node;

@@ -1,67 +1,52 @@
-//! Walks along a chain.
-ghost use Rattle.std.specs.Prelude.{◌≡◌, ℕ, ◌<◌, ◌≤◌, MatchResult};
-ghost use Rattle.model.specs.Records.{newest};
-ghost use Rattle.chains.specs.Links.{Sound, Found, Absent, canon, class_of};
+//! Where a record is on its chain.
+ghost use Rattle.std.specs.Prelude.{◌≡◌, ◌<◌, MatchResult};
+ghost use Rattle.std.specs.Ordering.{MatchOrdering};
+ghost use Rattle.chains.specs.Links.{Found, Absent, tag};
 
-use crate::memory::ChainsMemory;
-use crate::order::{is_in_reach, is_newer, is_same};
-use model::Record;
+use crate::chains::Chains;
+use model::{Record, class_of};
+use std::cmp::Ordering;
 
-/// A place on a chain: the node `at`, and the one before it, or any past the nodes at the start.
+/// A node on a chain, and the one before it.
 #[derive(Clone, Copy)]
 pub(crate) struct Spot {
-    pub(crate) prev: usize,
+    pub(crate) prev: Option<usize>,
     pub(crate) at: usize,
 }
 
-/// The chain of a key.
-pub(crate) fn chain_of(key: u64) -> usize
-    ensures { result ≡ class_of key }
-{
-    (key % 64) as usize
+/// A place between two nodes of a chain, or at an end.
+#[derive(Clone, Copy)]
+pub(crate) struct Gap {
+    pub(crate) prev: Option<usize>,
+    pub(crate) next: Option<usize>,
 }
 
-/// Where that key and version stands on its chain, or where it would go.
-pub(crate) fn find<V: Copy>(memory: &ChainsMemory<V>, key: u64, version: u64) -> Result<Spot, Spot>
-    requires { Sound memory.now.nodes.now memory.now.heads memory.now.free }
-    ensures { MatchResult result (λ s. Found memory.now.nodes.now memory.now.heads key version s.prev s.at) (λ s. Absent memory.now.nodes.now memory.now.heads key version s.prev s.at) }
+/// How the record stands to that key and version: by version, and then by key. The greater come first on a chain.
+fn order<V: Copy>(item: Record<V>, key: u64, version: u64) -> Ordering
+    ensures { MatchOrdering result (tag item.key item.version < tag key version) ((item.key ≡ key) × (item.version ≡ version)) (tag key version < tag item.key item.version) }
 {
-    let s = &*memory.nodes;
-    let n = s.len();
-    let mut prev = n;
-    let mut at = memory.heads[chain_of(key)];
-    while at < n {
-        let node = s[at];
-        if !is_newer(&node.record, key, version) {
-            if is_same(&node.record, key, version) {
-                return Ok(Spot { prev, at });
+    (item.version, item.key).cmp(&(version, key))
+}
+
+impl<'a, V: Copy> Chains<'a, V> {
+    /// Where that key and version stands on its chain, or where it would go.
+    pub(crate) fn find(&self, key: u64, version: u64) -> Result<Spot, Gap>
+        ensures { MatchResult result (λ s. Found self.now.nodes.now self.now.heads key version s.prev s.at) (λ g. Absent self.now.nodes.now self.now.heads key version g.prev g.next) }
+    {
+        let nodes = &*self.nodes;
+        let mut prev = None;
+        let mut next = self.heads[class_of(key)];
+        while let Some(at) = next {
+            let node = &nodes[at];
+            match order(node.record.unwrap(), key, version) {
+                Ordering::Greater => {
+                    prev = next;
+                    next = node.next;
+                }
+                Ordering::Equal => return Ok(Spot { prev, at }),
+                Ordering::Less => return Err(Gap { prev, next }),
             }
-            return Err(Spot { prev, at });
         }
-        prev = at;
-        at = node.next;
+        Err(Gap { prev, next })
     }
-    Err(Spot { prev, at })
-}
-
-/// The first record of the key at or below the bound on its chain.
-pub(crate) fn newest_in<V: Copy>(
-    memory: &ChainsMemory<V>,
-    key: u64,
-    bound: u64,
-) -> Option<Record<V>>
-    requires { Sound memory.now.nodes.now memory.now.heads memory.now.free }
-    ensures { newest key bound (canon memory.now.nodes.now) ≡ result }
-{
-    let s = &*memory.nodes;
-    let n = s.len();
-    let mut at = memory.heads[chain_of(key)];
-    while at < n {
-        let node = s[at];
-        if is_in_reach(&node.record, key, bound) {
-            return Some(node.record);
-        }
-        at = node.next;
-    }
-    None
 }

@@ -6,16 +6,35 @@ ghost use Rattle.model.specs.declared.words.CommitEntry.{CommitEntry};
 ghost use Rattle.model.specs.Maps.{is_there, look_up, remove, Rising};
 ghost use Rattle.commit_table.specs.Placing.{placing, place_in};
 
-use model::CommitEntry;
+use model::{CommitEntry, Full};
+use std::fmt;
 
-/// What placing an entry came to.
+/// Why an entry was not placed.
 #[derive(Clone, Copy, PartialEq, Eq, Debug)]
-pub enum Placing {
-    Placed,
-    /// An entry stood there, and stays.
+pub enum NotPlaced {
+    /// An entry stands there, and stays.
     Stands(CommitEntry),
     /// A new entry found no room.
     Full,
+}
+
+impl From<Full> for NotPlaced {
+    ghost use Rattle.commit_table.specs.declared.NotPlaced.TheVariants.{Full};
+
+    ghost from_gives = { λ _ e. e ≡ Full };
+
+    fn from(_: Full) -> NotPlaced {
+        NotPlaced::Full
+    }
+}
+
+impl fmt::Display for NotPlaced {
+    fn fmt<W: fmt::Write>(&self, f: &mut fmt::Formatter<W>) -> fmt::Result {
+        match self {
+            NotPlaced::Stands(entry) => write!(f, "stands {entry}"),
+            NotPlaced::Full => write!(f, "full"),
+        }
+    }
 }
 
 /// A map from ids to commit entries, with a capacity. An implementation shows just this.
@@ -39,8 +58,8 @@ pub trait CommitTable {
     fn look_up(&self, id: u64) -> Option<CommitEntry>
         ensures { look_up (entries self.now) id ≡ result };
 
-    /// Places an entry where none stands; full exactly for a new entry at capacity. What stands, and full, change nothing.
-    fn place(&mut self, id: u64, entry: CommitEntry) -> Placing
+    /// Places an entry where none stands; full exactly for a new entry at capacity. An error changes nothing.
+    fn place(&mut self, id: u64, entry: CommitEntry) -> Result<(), NotPlaced>
         ensures placed { placing result (entries self.new) ≡ place_in (capacity self.old) id entry (entries self.old) }
         ensures kept { capacity self.new ≡ capacity self.old };
 

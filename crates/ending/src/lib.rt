@@ -4,67 +4,64 @@
 
 ghost use Rattle.std.specs.Prelude.{◌≡◌};
 ghost use Rattle.model.specs.declared.call.Call.TheVariants.{Abandon, Bury};
+ghost use Rattle.model.specs.Answers.{answer_of};
 ghost use Rattle.model.specs.Step.{step};
-ghost use Rattle.engine.specs.Meaning.{database, answer_of};
+ghost use Rattle.engine.specs.Meaning.{database};
 
 use commit_table::CommitTable;
-use engine::Engine;
-use engine::rows::{drop_row, find_row, keys_held, keys_left};
-use model::{Phase, Refusal, Row};
-use table::Table;
+use engine::{Engine, Tables};
+use model::{Phase, Refusal};
 use version_store::VersionStore;
 use versions::stamping::{drop_pending_all, stamp_records};
 
 /// Drops the pending records, the commit entry and the row of a transaction that is not settled. It answers how many records went.
 pub fn abandon<S: VersionStore, C: CommitTable>(
-    engine: &mut Engine,
-    rows: &mut Table<Row>,
-    conflicts0: &Table<u64>,
-    conflicts1: &Table<u64>,
+    engine: &Engine,
+    tables: &mut Tables,
     store: &mut S,
     commits: &mut C,
     id: u64,
 ) -> Result<u64, Refusal>
-    ensures { (database engine.new rows.new conflicts0.now conflicts1.now (S.VersionStore.records store.new) (S.VersionStore.capacity store.new) (C.CommitTable.entries commits.new) (C.CommitTable.capacity commits.new), answer_of result)
-        ≡ step (database engine.old rows.old conflicts0.now conflicts1.now (S.VersionStore.records store.old) (S.VersionStore.capacity store.old) (C.CommitTable.entries commits.old) (C.CommitTable.capacity commits.old)) (Abandon id) }
+    ensures step { (database engine.now tables.new S.VersionStore store.new C.CommitTable commits.new, answer_of result)
+        ≡ step (database engine.now tables.old S.VersionStore store.old C.CommitTable commits.old) (Abandon id) }
+    ensures conflicts { tables.new.conflicts ≡ tables.old.conflicts }
 {
-    let Some(row) = find_row(rows, id) else {
+    let Some(row) = tables.rows.find(id) else {
         return Err(Refusal::NoRow { id });
     };
     if let Phase::Settled(_) = row.phase {
         return Err(Refusal::WrongPhase { id });
     }
-    let dropped = drop_pending_all(store, id, keys_held(&row));
+    let dropped = drop_pending_all(store, id, row.keys.as_slice());
     commits.drop_entry(id);
-    drop_row(rows, id);
+    tables.rows.remove(id);
     Ok(dropped)
 }
 
 /// Ends a transaction below the fence: a settled one has its remaining keys stamped, any other is abandoned. It answers how many keys or records that touched.
 pub fn bury<S: VersionStore, C: CommitTable>(
     engine: &mut Engine,
-    rows: &mut Table<Row>,
-    conflicts0: &Table<u64>,
-    conflicts1: &Table<u64>,
+    tables: &mut Tables,
     store: &mut S,
     commits: &mut C,
     id: u64,
 ) -> Result<u64, Refusal>
-    ensures { (database engine.new rows.new conflicts0.now conflicts1.now (S.VersionStore.records store.new) (S.VersionStore.capacity store.new) (C.CommitTable.entries commits.new) (C.CommitTable.capacity commits.new), answer_of result)
-        ≡ step (database engine.old rows.old conflicts0.now conflicts1.now (S.VersionStore.records store.old) (S.VersionStore.capacity store.old) (C.CommitTable.entries commits.old) (C.CommitTable.capacity commits.old)) (Bury id) }
+    ensures step { (database engine.new tables.new S.VersionStore store.new C.CommitTable commits.new, answer_of result)
+        ≡ step (database engine.old tables.old S.VersionStore store.old C.CommitTable commits.old) (Bury id) }
+    ensures conflicts { tables.new.conflicts ≡ tables.old.conflicts }
 {
-    let Some(row) = find_row(rows, id) else {
+    let Some(row) = tables.rows.find(id) else {
         return Err(Refusal::NoRow { id });
     };
     if id >= engine.fence {
         return Err(Refusal::NotFenced { id });
     }
     let Phase::Settled(number) = row.phase else {
-        return abandon(engine, rows, conflicts0, conflicts1, store, commits, id);
+        return abandon(engine, tables, store, commits, id);
     };
-    let keys = keys_left(&row);
+    let keys = row.keys_left();
     stamp_records(store, &mut engine.classes, id, number, keys);
     commits.drop_entry(id);
-    drop_row(rows, id);
+    tables.rows.remove(id);
     Ok(keys.len() as u64)
 }

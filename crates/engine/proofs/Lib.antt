@@ -2,5 +2,4 @@ pub mod Agreement
 pub mod RowTables
 pub mod Options
 pub mod Putting
-mod HeldKeys
 mod Limits

@@ -21,7 +21,7 @@ module _ {X : Type 0} where
   some_from false x y e = absurd (let z : ◌≡◌ {A = ℕ} 0 1 = cc in omega arith)
 
 abbrev places : Opening → Bool
-places z = places_fit z.rows z.conflicts0 z.conflicts1 z.records z.entries
+places z = places_fit z
 
 abbrev steps : Opening → Bool
 steps z = from_1_to last_step z.first && from_1_to 4096 z.span
@@ -38,7 +38,7 @@ regroup false b c d = refl
 module _ (z : Opening) (m n : ℕ) where
   is_limits : (within z && (eqb m 0 && eqb n 0)) ≡ limits z m n
   unfolding within
-  is_limits = regroup (from_1_to last_step z.first) (from_1_to 4096 z.span) (places_fit z.rows z.conflicts0 z.conflicts1 z.records z.entries) (eqb m 0 && eqb n 0)
+  is_limits = regroup (from_1_to last_step z.first) (from_1_to 4096 z.span) (places_fit z) (eqb m 0 && eqb n 0)
 
 module _ {V : Type 0} (z : Opening) (m n : ℕ) where
   outside : limits z m n ≡ false → opened {V = V} z m n ≡ Err OutsideLimits

@@ -4,7 +4,7 @@ use Rattle.std.proofs.lemmas.Bool.{cases_lt, lt-ltb, le-ltb, le-leb, lt-leb}
 use Rattle.model.specs.declared.words.Record.{Record}
 use Rattle.model.specs.Maps.{is_there}
 use Rattle.model.specs.Records.{count, record_at, put}
-use Rattle.version_store.specs.declared.full.Full.{Full}
+use Rattle.model.specs.declared.words.Full.{Full}
 use Rattle.version_store.specs.Putting.{PuttingOutcome, putting, put_in}
 
 no_room : (m n : ℕ) → leb n m ≡ not (ltb m n)

@@ -1,12 +1,12 @@
 -- A row table's calls, in terms of the transactions that it means.
-use Rattle.std.proofs.Common.{◌≡◌, ℕ, ◌<◌, Bool, true, false, cond, ◌||◌, eqb, ltb, List, [], ◌∷◌, length, Some, None, Option, sym, refl, ◌∙◌}
+use Rattle.std.proofs.Common.{◌≡◌, ℕ, ◌<◌, Bool, true, false, cond, ◌||◌, eqb, ltb, List, [], ◌∷◌, length, Some, None, Ok, Err, Option, map, sym, refl, ap, ◌∙◌, arith}
 use Rattle.std.proofs.lemmas.Bool.{lt-ltb}
-use Rattle.model.specs.declared.words.Row.{Row}
+use Rattle.std.proofs.lemmas.Bool.Decides.{nat_tests}
+use Rattle.engine.specs.declared.row.Row.{Row}
 use Rattle.model.specs.Maps.{is_there, look_up, enter, remove}
-use Rattle.model.specs.Transactions.{Transaction, transaction_of}
-use Rattle.table.specs.declared.table.Inserted.TheVariants.{Added, Replaced, Full}
+use Rattle.model.specs.Transactions.{Transaction}
 use Rattle.table.specs.Meaning.{insert_answer, insert_entries}
-use Rattle.engine.specs.Transactions.{transactions, transaction_in, put_transaction}
+use Rattle.engine.specs.Transactions.{transactions, transaction_of, transaction_in, put_transaction}
 
 pick : (b : Bool) (x : Row) (o : Option Row) → transaction_in (cond b (Some x) o) ≡ cond b (Some (transaction_of x)) (transaction_in o)
 pick true x o = refl
@@ -42,11 +42,11 @@ length_transactions [] = refl
 length_transactions (e ∷ l) = rw (length_transactions l) refl
 
 pub put_is : (n id : ℕ) (row : Row) (l : List (ℕ × Row)) →
-    transactions (insert_entries (insert_answer n id l) (record { tag = id; value = row }) l) ≡ put_transaction n id (transaction_of row) (transactions l)
+    transactions (insert_entries (insert_answer n id l) id row l) ≡ put_transaction n id (transaction_of row) (transactions l)
 put_is n id row l = rw (look_transactions l id, length_transactions l) (go (look_up l id) (ltb (length l) n))
   where
     go : (o : Option Row) (b : Bool) →
-        transactions (insert_entries (cond (is_there o) Replaced (cond b Added Full)) (record { tag = id; value = row }) l)
+        transactions (insert_entries (cond (is_there o || b) (Ok o) (Err (record {}))) id row l)
         ≡ cond (is_there (transaction_in o) || b) (enter id (transaction_of row) (transactions l)) (transactions l)
     go (Some x) b = enter_transactions id row l
     go None true = enter_transactions id row l
@@ -64,3 +64,13 @@ module _ (n id : ℕ) (t : Transaction) (l : List (ℕ × Transaction)) where
       go : (b : Bool) → cond (b || true) (enter id t l) l ≡ enter id t l
       go true = refl
       go false = refl
+
+  -- what a put leaves where a row with that id was found
+  pub put_found : (i : ℕ) (u : Transaction) (l' : List (ℕ × Transaction)) → l' ≡ put_transaction n i t l → i ≡ id → look_up l id ≡ Some u → l' ≡ enter id t l
+  put_found i u l' e f h = e ∙ (ap (λ k. put_transaction n k t l) f ∙ put_there u h)
+
+-- the row that is found at an id has it
+pub found_id : (rs : List Row) (q : ℕ) (r : Row) → look_up (map (λ (x : Row). (x.id, x)) rs) q ≡ Some r → r.id ≡ q
+unfolding look_up
+found_id [] q r e = absurd (grind arith)
+found_id (x ∷ rs) q r e = grind (arith, nat_tests, found_id rs q r)

@@ -4,6 +4,11 @@
 
 pub mod engine;
 pub mod opening;
+pub mod row;
 pub mod rows;
+pub mod tables;
 
 pub use engine::Engine;
+pub use row::Row;
+pub use rows::Rows;
+pub use tables::Tables;

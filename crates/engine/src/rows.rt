@@ -1,62 +1,73 @@
 //! Transactions in the row table.
-ghost use Rattle.std.specs.Prelude.{◌≡◌, length, drop};
+ghost use Rattle.std.specs.Prelude.{◌≡◌, [], length, IfSome};
 ghost use Rattle.model.specs.Maps.{look_up, remove};
-ghost use Rattle.model.specs.Transactions.{transaction_of};
-ghost use Rattle.table.specs.Meaning.{entries, capacity};
-ghost use Rattle.engine.specs.Transactions.{transactions, transaction_in, put_transaction};
+ghost use Rattle.table.specs.Meaning.{spare};
+ghost use Rattle.engine.specs.Transactions.{transaction_of, transaction_in, rows_of, places, put_transaction};
 
-use model::Row;
-use table::{Entry, Table};
+use crate::row::Row;
+use table::Table;
 
-/// The most keys that a row holds.
-pub const MOST_KEYS: usize = 16;
-
-/// The row of the id.
-pub fn find_row(rows: &Table<Row>, id: u64) -> Option<Row>
-    ensures { look_up (transactions (entries rows.now)) id ≡ transaction_in result }
-{
-    rows.look_up(id)
+/// The rows of the transactions, over lent memory.
+#[derive(Drop)]
+pub struct Rows<'a> {
+    pub table: Table<'a, Row>,
 }
 
-/// Puts the row at the id; a new one finds no place where all are used, and then nothing changes.
-pub fn put_row(rows: &mut Table<Row>, id: u64, row: Row)
-    ensures after { transactions (entries rows.new) ≡ put_transaction (capacity rows.old) id (transaction_of row) (transactions (entries rows.old)) }
-    ensures kept { capacity rows.new ≡ capacity rows.old }
-{
-    let _ = rows.insert(Entry {
-        tag: id,
-        value: row,
-    });
-}
+impl<'a> Rows<'a> {
+    /// No rows, with a place for each of the lent ones, which stay as they are.
+    pub fn over(lent: &'a mut [Row]) -> Rows<'a>
+        ensures empty { rows_of result ≡ [] }
+        ensures rest { spare result.table ≡ lent.old }
+        ensures places { places result ≡ length lent.old }
+    {
+        Rows {
+            table: Table::over(lent),
+        }
+    }
 
-/// Takes the row of the id out, if there is one.
-pub fn drop_row(rows: &mut Table<Row>, id: u64)
-    ensures after { transactions (entries rows.new) ≡ remove id (transactions (entries rows.old)) }
-    ensures kept { capacity rows.new ≡ capacity rows.old }
-{
-    let _ = rows.remove(id);
-}
+    /// How many rows there is room for.
+    pub fn capacity(&self) -> usize
+        ensures { result ≡ places self.now }
+    {
+        self.table.capacity()
+    }
 
-/// How many rows are used.
-pub fn count_rows(rows: &Table<Row>) -> usize
-    ensures { result ≡ length (transactions (entries rows.now)) }
-{
-    rows.len()
-}
+    /// How many rows are used.
+    pub fn len(&self) -> usize
+        ensures { result ≡ length (rows_of self.now) }
+    {
+        self.table.len()
+    }
 
-/// The keys that the transaction wrote, in order of first write.
-pub fn keys_held(row: &Row) -> &[u64]
-    ensures { result.now ≡ (transaction_of row.now).keys }
-{
-    let held = row.held.min(MOST_KEYS);
-    &row.keys[0..held]
-}
+    /// The row of the id.
+    pub fn find(&self, id: u64) -> Option<Row>
+        ensures row { look_up (rows_of self.now) id ≡ transaction_in result }
+        ensures id { IfSome result (λ r. r.id ≡ id) }
+    {
+        self.table.look_up(id)
+    }
 
-/// Those of them that are not stamped yet.
-pub fn keys_left(row: &Row) -> &[u64]
-    ensures { result.now ≡ drop row.now.stamped (transaction_of row.now).keys }
-{
-    let held = row.held.min(MOST_KEYS);
-    let stamped = row.stamped.min(held);
-    &row.keys[stamped..held]
+    /// Puts the row at its id; a new one finds no place where all are used, and then nothing changes.
+    pub fn put(&mut self, row: Row)
+        ensures after { rows_of self.new ≡ put_transaction (places self.old) row.id (transaction_of row) (rows_of self.old) }
+        ensures kept { places self.new ≡ places self.old }
+    {
+        let _ = self.table.insert(row);
+    }
+
+    /// Takes the row of the id out, if there is one.
+    pub fn remove(&mut self, id: u64)
+        ensures after { rows_of self.new ≡ remove id (rows_of self.old) }
+        ensures kept { places self.new ≡ places self.old }
+    {
+        let _ = self.table.remove(id);
+    }
+
+    /// Makes every place spare.
+    pub fn clear(&mut self)
+        ensures after { rows_of self.new ≡ [] }
+        ensures kept { places self.new ≡ places self.old }
+    {
+        self.table.clear();
+    }
 }

@@ -1,6 +1,5 @@
 -- What the reference step gives on each way through fast read, fast change and fast write.
-use Rattle.std.proofs.Common.{◌≡◌, ℕ, suc, ◌%◌, ◌<◌, ◌≤◌, true, false, eqb, Some, None, Option, refl}
-use Rattle.std.proofs.lemmas.Bool.{lt-ltb, le-ltb}
+use Rattle.std.proofs.Common.{◌≡◌, ℕ, suc, ◌%◌, true, false, eqb, ltb, Some, None, Option, refl}
 use Rattle.model.specs.declared.refusal.Refusal.TheVariants.{KeyPending, ConflictAtEngine, ClassSpent, StoreFull}
 use Rattle.model.specs.declared.call.Call.TheVariants.{FastRead, FastChange, FastWrite}
 use Rattle.model.specs.declared.call.Answer.TheVariants.{Denied, Number, Newest}
@@ -29,14 +28,14 @@ module _ {V : Type 0} (s : State V) (k : ℕ) where
       greatest : (greatest_stamped k s.records).0 ≡ p.0
       greatest = rw g refl
 
-      pub fast_conflict : n < p.0 → step s (FastChange n k x) ≡ (s, Denied (ConflictAtEngine k))
+      pub fast_conflict : ltb n p.0 ≡ true → step s (FastChange n k x) ≡ (s, Denied (ConflictAtEngine k))
       unfolding step fast_change fast_if
-      fast_conflict l = rw (e, greatest, lt-ltb n p.0 l) refl
+      fast_conflict l = rw (e, greatest, l) refl
 
-      module _ (l : p.0 ≤ n) where
+      module _ (l : ltb n p.0 ≡ false) where
         pub fast_spent : None ≡ next_number (class_number s.classes k) → step s (FastChange n k x) ≡ (s, Denied (ClassSpent k))
         unfolding step fast_change fast_if
-        fast_spent m = let f : ℕ = suc (class_number s.classes k) in rw (e, greatest, le-ltb n p.0 l, none_unless (eqb (f % U) 0) f m) refl
+        fast_spent m = let f : ℕ = suc (class_number s.classes k) in rw (e, greatest, l, none_unless (eqb (f % U) 0) f m) refl
 
         module _ (f : ℕ) (m : Some f ≡ next_number (class_number s.classes k)) where
           next : (eqb (suc (class_number s.classes k) % U) 0 ≡ false) × (suc (class_number s.classes k) ≡ f)
@@ -44,11 +43,11 @@ module _ {V : Type 0} (s : State V) (k : ℕ) where
 
           pub fast_full : record_refused k f s ≡ true → step s (FastChange n k x) ≡ (s, Denied (StoreFull k))
           unfolding step fast_change fast_if
-          fast_full o = rw (e, greatest, le-ltb n p.0 l, next.0, next.1, o) refl
+          fast_full o = rw (e, greatest, l, next.0, next.1, o) refl
 
           pub fast_done : record_refused k f s ≡ false → step s (FastChange n k x) ≡ (raise_class_of k f (with_records (put (record_of k f (Some f) x) s.records) s), Number f)
           unfolding step fast_change fast_if
-          fast_done o = rw (e, greatest, le-ltb n p.0 l, next.0, next.1, o) refl
+          fast_done o = rw (e, greatest, l, next.0, next.1, o) refl
 
   -- a fast write is a fast change that saw everything
   pub fast_write_is : (x : V) → step s (FastChange last_number k x) ≡ step s (FastWrite k x)

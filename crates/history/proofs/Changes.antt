@@ -168,14 +168,8 @@ module _ {V : Type 0} (s : State V) (h : Summary V) (S : Sound s h) (q : ℕ) (t
     bound_is : bound s ≡ t.clock * U
     bound_is = ⊎_elim (λ p. p.1) (λ p. absurd (p.0 charged)) (seat_bound s q t c u u at Z refl)
 
-    m₀ : ConflictTable
-    m₀ = conflict_table u.low u.conflicts
-
     under_clock : Bounded (t.clock * U) (conflict_table u.low u.conflicts)
     under_clock = record { low = grind (arith, low_in, Z.same_low); all = λ k. grind (arith, table_in k, Z.same_table) }
-
-    w₀ : Seat
-    w₀ = entered cap₀ (t.clock * U) ks u
 
     pub validate_sound : Sound (with_rows (enter id (transaction (Validated (t.clock * U)) ks n) s.rows) (with_seat q (entered cap₀ (t.clock * U) ks u) c s)) h
     validate_sound =
@@ -262,9 +256,6 @@ module _ {V : Type 0} (s : State V) (h : Summary V) (S : Sound s h) where
       }
 
   module _ (n k : ℕ) (x : V) (F : Fast n k s) where
-    f₀ : ℕ
-    f₀ = next_number k s
-
     less : next_number k s < bound s
     less = let a = S.time.classes k in let b = bound_step s in let c = F.number_left in grind (arith, a, b, c)
 

@@ -8,50 +8,36 @@ ghost use Rattle.history.specs.Refused.{Refused};
 
 /// The history law. For every kind of value, every opening and all calls: each read answers from its snapshot, commits of one key are in
 /// order, and a new reader finds what all the commits left.
-pub fn history_holds<V>() -> u8
+pub fn history_holds<V>()
     ensures { Holds V }
-{
-    0
-}
+{}
 
 /// Pasts that look like those of a snapshot database, and that the law refuses.
-pub fn bad_pasts_refused() -> u8
+pub fn bad_pasts_refused()
     ensures { Refused }
-{
-    0
-}
+{}
 
 /// A past with every kind of call, with commits and reads, that is answered and obeys the law.
-pub fn honest_past_obeys() -> u8
+pub fn honest_past_obeys()
     ensures { Honest }
-{
-    0
-}
+{}
 
 /// Two answered reads of one key by one transaction, with no write of its own between, agree.
-pub fn reads_repeatable<V>() -> u8
+pub fn reads_repeatable<V>()
     ensures { Repeatable V }
-{
-    0
-}
+{}
 
 /// A commit number is never used twice on a key.
-pub fn numbers_used_once<V>() -> u8
+pub fn numbers_used_once<V>()
     ensures { NumbersOnce V }
-{
-    0
-}
+{}
 
 /// What a commit wrote is read by every transaction that the manager in charge begins later, until a higher commit on the key.
-pub fn commits_lasting<V>() -> u8
+pub fn commits_lasting<V>()
     ensures { Lasting V }
-{
-    0
-}
+{}
 
 /// Commit entries never outnumber rows.
-pub fn entries_within_rows<V>() -> u8
+pub fn entries_within_rows<V>()
     ensures { EntriesWithinRows V }
-{
-    0
-}
+{}

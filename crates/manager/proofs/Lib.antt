@@ -1,3 +1,4 @@
 pub mod Seats
 pub mod Taking
+mod Least
 mod Forgetting

@@ -1,13 +1,25 @@
--- Parts of entering a key in a conflict table.
-use Rattle.std.specs.Prelude.{ℕ, cond, not, ◌&&◌, length, Some, None, Option, nat_le}
-use Rattle.model.specs.Maps.{is_there, look_up}
-use Rattle.model.specs.Managers.{lesser_of, least_entry, ConflictTable, discard}
+-- The conflict tables of both seats.
+use Rattle.std.specs.Prelude.{ℕ, cond, List, ◌==◌}
+use Rattle.table.specs.Meaning.{entries, capacity}
+use Rattle.manager.specs.declared.conflicts.ConflictTables.{ConflictTables}
 
--- the lesser of an entry, if there is one, and the least so far
-abbrev pub lesser_in : Option (ℕ × ℕ) → Option (ℕ × ℕ) → Option (ℕ × ℕ)
-lesser_in None d = d
-lesser_in (Some e) d = lesser_of e d
+-- the entries of each, and how many places each has
+pub record Conflicts : Type 0 where
+  pub entries0 : List (ℕ × ℕ)
+  pub entries1 : List (ℕ × ℕ)
+  pub places0 : ℕ
+  pub places1 : ℕ
 
--- where the key k is new and all n places are used, the least entry is discarded
-abbrev pub room_for : ℕ → ℕ → ConflictTable → ConflictTable
-room_for n k m = cond (not (is_there (look_up m.conflicts k)) && nat_le n (length m.conflicts)) (discard (least_entry m.conflicts) m) m
+abbrev pub conflicts_of : ConflictTables → Conflicts
+conflicts_of t = record { entries0 = entries t.seat0; entries1 = entries t.seat1; places0 = capacity t.seat0; places1 = capacity t.seat1 }
+
+-- those of a seat
+abbrev pub entries_at : ℕ → Conflicts → List (ℕ × ℕ)
+entries_at q c = cond (q == 0) c.entries0 c.entries1
+
+abbrev pub places_at : ℕ → Conflicts → ℕ
+places_at q c = cond (q == 0) c.places0 c.places1
+
+-- the table of the seat q has the entries l
+abbrev pub with_entries : ℕ → List (ℕ × ℕ) → Conflicts → Conflicts
+with_entries q l c = record { entries0 = cond (q == 0) l c.entries0; entries1 = cond (q == 0) c.entries1 l; places0 = c.places0; places1 = c.places1 }

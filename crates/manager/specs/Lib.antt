@@ -1,3 +1,4 @@
 pub mod Meaning
 pub mod Conflicts
+pub mod Memory
 pub mod Validation

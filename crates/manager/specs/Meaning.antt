@@ -1,9 +1,11 @@
 -- What the two managers mean: the seats of the reference database, and what taking over and taking a step leave.
-use Rattle.std.specs.Prelude.{ℕ, ◌+◌, ◌*◌, Bool, true, false, cond, ◌&&◌, List, [], ◌∷◌, Some, None, Ok, Err, Option, Result, ◌==◌, nat_lt}
+use Rattle.std.specs.Prelude.{ℕ, ◌+◌, ◌*◌, cond, ◌&&◌, List, [], ◌∷◌, ◌++◌, Some, None, Ok, Err, Option, Result, unwrap_or, slice_index_or, ◌==◌, nat_lt}
 use Rattle.model.specs.declared.refusal.Refusal.{Refusal}
 use Rattle.model.specs.declared.refusal.Refusal.TheVariants.{OutsideLimits, SpanLost, StepsSpent}
 use Rattle.model.specs.Numbers.{U, last_step, from_1_to}
 use Rattle.model.specs.Managers.{Seat, seat}
+use Rattle.manager.specs.Conflicts.{Conflicts}
+use Rattle.manager.specs.declared.managers.Steps.{Steps}
 use Rattle.manager.specs.declared.managers.Manager.{Manager}
 use Rattle.manager.specs.declared.managers.Managers.{Managers}
 
@@ -15,32 +17,63 @@ pub record Numbers : Type 0 where
   pub seat1 : Manager
   pub charge : Option ℕ
 
+-- a seat that was never taken over
+abbrev pub vacant : Manager
+vacant = record { steps = None; low = 0 }
+
 abbrev pub numbers : Managers → Numbers
-numbers m = record { cell = m.cell; span = m.span; seat0 = m.seat0; seat1 = m.seat1; charge = m.charge }
+numbers m = record { cell = m.cell; span = m.span; seat0 = slice_index_or m.seats 0 vacant; seat1 = slice_index_or m.seats 1 vacant; charge = m.charge }
+
+-- what a manager counts by: its next step, the end of its span, and its low
+pub record Counts : Type 0 where
+  pub clock : ℕ
+  pub end : ℕ
+  pub low : ℕ
+
+-- a vacant seat counts from 0
+abbrev pub no_steps : Steps
+no_steps = record { clock = 0; end = 0 }
+
+abbrev pub counting : Steps → ℕ → Counts
+counting s l = record { clock = s.clock; end = s.end; low = l }
+
+abbrev pub counts : Manager → Counts
+counts m = counting (unwrap_or m.steps no_steps) m.low
+
+-- the manager that counts by u, at a seat that was taken over
+abbrev pub manager_by : Counts → Manager
+manager_by u = record { steps = Some (record { clock = u.clock; end = u.end }); low = u.low }
 
 -- a manager with its conflict entries is a seat
-abbrev pub seated : Manager → List (ℕ × ℕ) → Seat
-seated m t = seat m.clock m.end m.low t
+abbrev pub seated : Counts → List (ℕ × ℕ) → Seat
+seated u t = seat u.clock u.end u.low t
 
--- the seats that were taken over
-abbrev pub seats_of : Bool → Bool → Seat → Seat → List (ℕ × Seat)
-seats_of true true s t = (0, s) ∷ (1, t) ∷ []
-seats_of true false s t = (0, s) ∷ []
-seats_of false true s t = (1, t) ∷ []
-seats_of false false s t = []
+-- the seat q, if it was taken over
+abbrev pub taken : ℕ → Option Steps → ℕ → List (ℕ × ℕ) → List (ℕ × Seat)
+taken q None l t = []
+taken q (Some s) l t = (q, seated (counting s l) t) ∷ []
 
--- the seats, given the conflict entries of each
-abbrev pub seats : Numbers → List (ℕ × ℕ) → List (ℕ × ℕ) → List (ℕ × Seat)
-seats p a b = seats_of p.seat0.taken p.seat1.taken (seated p.seat0 a) (seated p.seat1 b)
+-- the seats, given the conflict tables
+abbrev pub seats : Numbers → Conflicts → List (ℕ × Seat)
+seats p c = taken 0 p.seat0.steps p.seat0.low c.entries0 ++ taken 1 p.seat1.steps p.seat1.low c.entries1
 
--- the manager at a seat, 0 or else 1
-abbrev pub manager_at : ℕ → Numbers → Manager
-manager_at q p = cond (q == 0) p.seat0 p.seat1
+-- the place of a seat, 0 or else 1
+abbrev pub seat_index : ℕ → ℕ
+seat_index q = cond (q == 0) 0 1
+
+-- what stands at a seat
+abbrev pub standing_at : ℕ → Numbers → Manager
+standing_at q p = cond (q == 0) p.seat0 p.seat1
+
+-- the steps at a seat, if it was taken over
+abbrev pub seat_at : ℕ → Numbers → Option Steps
+seat_at q p = (standing_at q p).steps
+
+-- what the manager at a seat counts by
+abbrev pub manager_at : ℕ → Numbers → Counts
+manager_at q p = counts (standing_at q p)
 
 -- two vacant seats
-abbrev pub vacant : Manager
-vacant = record { taken = false; clock = 0; end = 0; low = 0 }
-
 abbrev pub new_numbers : ℕ → ℕ → Option Numbers
 new_numbers first span = cond (from_1_to last_step first && from_1_to 4096 span) (Some (record { cell = first; span = span; seat0 = vacant; seat1 = vacant; charge = None })) None
 
@@ -49,31 +82,38 @@ made None = None
 made (Some m) = Some (numbers m)
 
 -- the clock of the seat in charge
-abbrev pub clock_taken : Manager → ℕ
-clock_taken m = cond m.taken m.clock 0
+abbrev pub clock_taken : Option Steps → ℕ
+clock_taken None = 0
+clock_taken (Some s) = s.clock
 
-abbrev pub clock_at : Option ℕ → Manager → Manager → ℕ
+abbrev pub clock_at : Option ℕ → Option Steps → Option Steps → ℕ
 clock_at None m n = 0
 clock_at (Some q) m n = cond (q == 0) (clock_taken m) (cond (q == 1) (clock_taken n) 0)
 
 abbrev pub clock_in_charge : Numbers → ℕ
-clock_in_charge p = clock_at p.charge p.seat0 p.seat1
+clock_in_charge p = clock_at p.charge p.seat0.steps p.seat1.steps
 
--- the manager m stands at the seat q in place of the one there
-abbrev pub with_manager : ℕ → Manager → Numbers → Numbers
-with_manager q m p = record { cell = p.cell; span = p.span; seat0 = cond (q == 0) m p.seat0; seat1 = cond (q == 0) p.seat1 m; charge = p.charge }
+-- m stands at the seat q in place of what stood there
+abbrev pub with_seat : ℕ → Manager → Numbers → Numbers
+with_seat q m p = record { cell = p.cell; span = p.span; seat0 = cond (q == 0) m p.seat0; seat1 = cond (q == 0) p.seat1 m; charge = p.charge }
 
+-- the manager at the seat q has the low l
 abbrev pub with_low : ℕ → ℕ → Numbers → Numbers
-with_low q l p =
-    let m : Manager = manager_at q p in
-    with_manager q (record { taken = m.taken; clock = m.clock; end = m.end; low = l }) p
+with_low q l p = with_seat q (record { steps = seat_at q p; low = l }) p
 
--- the clock of the seat q rose by one, its end is at e, and the cell at c
-abbrev pub ticked : ℕ → Manager → Manager
-ticked e m = record { taken = m.taken; clock = m.clock + 1; end = e; low = m.low }
+-- the clock rose by one, and the end is at e
+abbrev pub ticked : ℕ → Counts → Counts
+ticked e u = record { clock = u.clock + 1; end = e; low = u.low }
 
+-- the manager at the seat q has ticked, its end is at e, and the cell at c
 abbrev pub advanced : ℕ → ℕ → ℕ → Numbers → Numbers
-advanced q c e p = record { cell = c; span = p.span; seat0 = cond (q == 0) (ticked e p.seat0) p.seat0; seat1 = cond (q == 0) p.seat1 (ticked e p.seat1); charge = p.charge }
+advanced q c e p =
+    let m : Manager = manager_by (ticked e (manager_at q p)) in
+    record { cell = c; span = p.span; seat0 = cond (q == 0) m p.seat0; seat1 = cond (q == 0) p.seat1 m; charge = p.charge }
+
+-- where the span after the next one begins, for the seat q
+abbrev pub next_cell : ℕ → Numbers → Result ℕ Refusal
+next_cell q p = cond (nat_lt last_step (p.cell + p.span)) (Err (StepsSpent q)) (Ok (p.cell + p.span))
 
 -- an answer, and the numbers after it
 pub record Stepping : Type 0 where
@@ -86,7 +126,7 @@ stepping r p = record { answer = r; after = p }
 -- taking a step at the seat q
 abbrev pub step_of : ℕ → Numbers → Stepping
 step_of q p =
-    let m : Manager = manager_at q p in
+    let m : Counts = manager_at q p in
     cond (m.clock == m.end)
     (cond (p.cell == m.end)
     (cond (nat_lt last_step (p.cell + p.span))
@@ -96,11 +136,13 @@ step_of q p =
     (stepping (Ok (m.clock * U)) (advanced q p.cell m.end p))
 
 -- taking over the seat q
-abbrev pub new_manager : Numbers → Manager
-new_manager p = record { taken = true; clock = p.cell; end = p.cell + p.span; low = p.cell * U }
+abbrev pub new_manager : Numbers → Counts
+new_manager p = record { clock = p.cell; end = p.cell + p.span; low = p.cell * U }
 
 abbrev pub taken_by : ℕ → Numbers → Numbers
-taken_by q p = record { cell = p.cell + p.span; span = p.span; seat0 = cond (q == 0) (new_manager p) p.seat0; seat1 = cond (q == 0) p.seat1 (new_manager p); charge = Some q }
+taken_by q p =
+    let m : Manager = manager_by (new_manager p) in
+    record { cell = p.cell + p.span; span = p.span; seat0 = cond (q == 0) m p.seat0; seat1 = cond (q == 0) p.seat1 m; charge = Some q }
 
 abbrev pub takeover_of : ℕ → Numbers → Stepping
 takeover_of q p =

@@ -4,8 +4,8 @@ use Rattle.model.specs.declared.refusal.Refusal.{Refusal}
 use Rattle.model.specs.declared.refusal.Refusal.TheVariants.{OutsideLimits, StepAhead, BelowLow, ConflictAtManager}
 use Rattle.model.specs.Numbers.{U}
 use Rattle.model.specs.Managers.{first_conflict, ConflictTable, conflict_table, enter_conflicts}
-use Rattle.manager.specs.declared.managers.Manager.{Manager}
-use Rattle.manager.specs.Meaning.{Numbers, manager_at, with_low, Stepping, step_of}
+use Rattle.manager.specs.Conflicts.{Conflicts, entries_at, places_at, with_entries}
+use Rattle.manager.specs.Meaning.{Numbers, Counts, manager_at, with_low, Stepping, step_of}
 
 -- an answer, the managers' numbers after it, and the conflict entries of the seat
 pub record Validating : Type 0 where
@@ -33,24 +33,23 @@ unless_conflict q n ks p t None =
 -- the tests: the table has no place; the id's step is at or above the clock; the id is below low; a key in conflict
 abbrev pub validate_of : ℕ → ℕ → ℕ → List ℕ → Numbers → List (ℕ × ℕ) → Validating
 validate_of q n id ks p t =
-    let m : Manager = manager_at q p in
+    let m : Counts = manager_at q p in
     cond (n == 0) (validating (Err OutsideLimits) p t)
     (cond (nat_le m.clock (id / U)) (validating (Err (StepAhead id)) p t)
     (cond (nat_lt id m.low) (validating (Err (BelowLow m.low)) p t)
     (unless_conflict q n ks p t (first_conflict id t ks))))
 
--- with the conflict entries of both seats
+-- with the conflict tables of both seats
 pub record Both : Type 0 where
   pub answer : Result ℕ Refusal
   pub after : Numbers
-  pub left0 : List (ℕ × ℕ)
-  pub left1 : List (ℕ × ℕ)
+  pub tables : Conflicts
 
-abbrev pub both : Result ℕ Refusal → Numbers → List (ℕ × ℕ) → List (ℕ × ℕ) → Both
-both r p a b = record { answer = r; after = p; left0 = a; left1 = b }
+abbrev pub both : Result ℕ Refusal → Numbers → Conflicts → Both
+both r p c = record { answer = r; after = p; tables = c }
 
--- only those of the seat q are looked at and changed
-abbrev pub validate_both : ℕ → ℕ → ℕ → ℕ → List ℕ → Numbers → List (ℕ × ℕ) → List (ℕ × ℕ) → Both
-validate_both q n0 n1 id ks p a b =
-    let v : Validating = validate_of q (cond (q == 0) n0 n1) id ks p (cond (q == 0) a b) in
-    both v.answer v.after (cond (q == 0) v.left a) (cond (q == 0) b v.left)
+-- only that of the seat q is looked at and changed
+abbrev pub validate_both : ℕ → ℕ → List ℕ → Numbers → Conflicts → Both
+validate_both q id ks p c =
+    let v : Validating = validate_of q (places_at q c) id ks p (entries_at q c) in
+    both v.answer v.after (with_entries q v.left c)

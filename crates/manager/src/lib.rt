@@ -3,7 +3,9 @@
 
 pub mod conflicts;
 pub mod managers;
+mod memory;
 pub mod steps;
 pub mod validation;
 
-pub use managers::{Manager, Managers};
+pub use conflicts::{Conflict, ConflictTables};
+pub use managers::{Manager, Managers, Steps};

@@ -1,5 +1,4 @@
 pub mod Newest
-pub mod Turns
 pub mod Parts
 pub mod LookUps
 pub mod VersionLists
@@ -11,3 +10,5 @@ pub mod Opened
 pub mod Denying
 pub mod Rising
 pub mod MapsKept
+pub mod Adding
+pub mod Entering

@@ -4,6 +4,8 @@ pub mod Records
 pub mod Versions
 pub mod Classes
 pub mod Transactions
+pub mod KeyLists
+pub mod Answers
 pub mod Managers
 pub mod Refusals
 pub mod State

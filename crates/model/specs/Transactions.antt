@@ -1,7 +1,6 @@
--- A transaction in the row table, under its id.
-use Rattle.std.specs.Prelude.{ℕ, Bool, false, cond, ◌||◌, List, [], ◌∷◌, take, ◌==◌}
+-- A transaction, under its id.
+use Rattle.std.specs.Prelude.{ℕ, Bool, false, cond, ◌||◌, List, [], ◌∷◌, ◌==◌}
 use Rattle.model.specs.declared.words.Phase.{Phase}
-use Rattle.model.specs.declared.words.Row.{Row}
 
 -- its phase, its keys in order of first write, and how many of them are stamped
 pub record Transaction : Type 0 where
@@ -11,10 +10,6 @@ pub record Transaction : Type 0 where
 
 abbrev pub transaction : Phase → List ℕ → ℕ → Transaction
 transaction p ks n = record { phase = p; keys = ks; stamped = n }
-
--- what a row in memory means
-abbrev pub transaction_of : Row → Transaction
-transaction_of r = transaction r.phase (take r.held r.keys) r.stamped
 
 -- k is one of the keys
 abbrev pub member : ℕ → List ℕ → Bool

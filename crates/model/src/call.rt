@@ -1,9 +1,10 @@
 //! Opening a database, the calls on it and their answers.
 use crate::refusal::Refusal;
+use crate::words::Stamped;
 
 /// What a database is opened with: the first step, the span (how many steps a manager takes from the common cell at a time), and the
 /// places of the row table, of each seat's conflict table, of the version store and of the commit table.
-#[derive(Clone, Copy)]
+#[derive(Clone, Copy, PartialEq, Eq, Debug)]
 pub struct Opening {
     pub first: u64,
     pub span: u64,
@@ -15,7 +16,7 @@ pub struct Opening {
 }
 
 /// The fourteen calls. A `seat` is a manager, 0 or 1; an `id` is a transaction's.
-#[derive(Clone, Copy)]
+#[derive(Clone, Copy, PartialEq, Eq, Debug)]
 pub enum Call<V> {
     Takeover { seat: u64 },
     Begin { seat: u64 },
@@ -34,7 +35,7 @@ pub enum Call<V> {
 }
 
 /// What a call answers.
-#[derive(Clone, Copy)]
+#[derive(Clone, Copy, PartialEq, Eq, Debug)]
 pub enum Answer<V> {
     Denied(Refusal),
     /// A step, an id, a number or a count, as the call has it.
@@ -43,4 +44,52 @@ pub enum Answer<V> {
     Value(Option<V>),
     /// A fast read's greatest stamped number with its value, or 0 and nothing.
     Newest { number: u64, value: Option<V> },
+}
+
+impl<V> From<Result<u64, Refusal>> for Answer<V> {
+    ghost use Rattle.std.specs.Prelude.{◌≡◌};
+    ghost use Rattle.model.specs.Answers.{answer_of};
+
+    ghost from_gives = { λ res a. a ≡ answer_of res };
+
+    fn from(res: Result<u64, Refusal>) -> Answer<V> {
+        match res {
+            Ok(number) => Answer::Number(number),
+            Err(refusal) => Answer::Denied(refusal),
+        }
+    }
+}
+
+impl<V: Drop> From<Result<Option<V>, Refusal>> for Answer<V> {
+    ghost use Rattle.std.specs.Prelude.{◌≡◌};
+    ghost use Rattle.model.specs.Answers.{value_answer};
+
+    ghost from_gives = { λ res a. a ≡ value_answer res };
+
+    fn from(res: Result<Option<V>, Refusal>) -> Answer<V> {
+        match res {
+            Ok(value) => Answer::Value(value),
+            Err(refusal) => Answer::Denied(refusal),
+        }
+    }
+}
+
+impl<V> From<Option<Stamped<V>>> for Answer<V> {
+    ghost use Rattle.std.specs.Prelude.{◌≡◌};
+    ghost use Rattle.model.specs.Answers.{newest_answer};
+
+    ghost from_gives = { λ found a. a ≡ newest_answer found };
+
+    fn from(found: Option<Stamped<V>>) -> Answer<V> {
+        match found {
+            Some(stamped) => Answer::Newest {
+                number: stamped.number,
+                value: Some(stamped.value),
+            },
+            None => Answer::Newest {
+                number: 0,
+                value: None,
+            },
+        }
+    }
 }

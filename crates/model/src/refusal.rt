@@ -14,7 +14,7 @@ pub enum Layer {
 }
 
 /// The refusals, each with what its place needs. Number 11 has two cases, for it comes from two layers.
-#[derive(Clone, Copy)]
+#[derive(Clone, Copy, PartialEq, Eq, Debug)]
 pub enum Refusal {
     /// 1: an opening limit is broken, a store or commit table is not empty, or a seat is above 1.
     OutsideLimits,
@@ -177,13 +177,12 @@ impl Refusal {
 
 impl fmt::Display for Layer {
     fn fmt<W: fmt::Write>(&self, f: &mut fmt::Formatter<W>) -> fmt::Result {
-        let name = match *self {
+        f.write_str(match self {
             Layer::Engine => "engine",
             Layer::Manager => "manager",
             Layer::Store => "store",
             Layer::CommitTable => "commit table",
-        };
-        write!(f, "{name}")
+        })
     }
 }
 

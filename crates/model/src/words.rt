@@ -1,8 +1,9 @@
 //! What stores and tables hold.
+use std::fmt;
 
 /// One version of a key. `number` is the commit number, or `None` while the record is pending: put by a transaction whose
 /// outcome the record does not yet show.
-#[derive(Clone, Copy, Drop)]
+#[derive(Clone, Copy, PartialEq, Eq, Debug, Drop)]
 pub struct Record<V> {
     pub key: u64,
     pub version: u64,
@@ -27,20 +28,30 @@ pub enum CommitEntry {
     Aborted,
 }
 
+impl fmt::Display for CommitEntry {
+    fn fmt<W: fmt::Write>(&self, f: &mut fmt::Formatter<W>) -> fmt::Result {
+        match self {
+            CommitEntry::Committed(number) => write!(f, "committed at {number}"),
+            CommitEntry::Aborted => write!(f, "aborted"),
+        }
+    }
+}
+
+/// A value and the commit number at which it is stamped.
+#[derive(Clone, Copy, PartialEq, Eq, Debug, Drop)]
+pub struct Stamped<V> {
+    pub number: u64,
+    pub value: V,
+}
+
+/// Something new found no room.
+#[derive(Clone, Copy, PartialEq, Eq, Debug)]
+pub struct Full {}
+
 /// How far a transaction is; from its validation on with its commit number.
-#[derive(Clone, Copy)]
+#[derive(Clone, Copy, PartialEq, Eq, Debug)]
 pub enum Phase {
     Open,
     Validated(u64),
     Settled(u64),
-}
-
-/// A transaction in the row table, under its id, which is its start. The first `held` of `keys` are those that it wrote, in order of
-/// first write; the first `stamped` of these are stamped.
-#[derive(Clone, Copy, Drop)]
-pub struct Row {
-    pub phase: Phase,
-    pub keys: [u64; 16],
-    pub held: usize,
-    pub stamped: usize,
 }

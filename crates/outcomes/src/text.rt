@@ -1,68 +1,40 @@
 //! Answers in words.
-use commit_table::Placing;
+use commit_table::NotPlaced;
 use model::CommitEntry;
 use std::fmt;
 
+/// What looking up found.
 #[derive(Clone, Copy)]
-pub struct EntryText {
-    pub entry: CommitEntry,
-}
+pub struct Found(pub Option<CommitEntry>);
 
+/// What placing came to.
 #[derive(Clone, Copy)]
-pub struct FoundText {
-    pub found: Option<CommitEntry>,
-}
+pub struct Placed(pub Result<(), NotPlaced>);
 
+/// Whether an entry was dropped.
 #[derive(Clone, Copy)]
-pub struct PlacingText {
-    pub placing: Placing,
-}
+pub struct Dropped(pub bool);
 
-#[derive(Clone, Copy)]
-pub struct DroppedText {
-    pub dropped: bool,
-}
-
-impl fmt::Display for EntryText {
+impl fmt::Display for Found {
     fn fmt<W: fmt::Write>(&self, f: &mut fmt::Formatter<W>) -> fmt::Result {
-        match self.entry {
-            CommitEntry::Committed(number) => write!(f, "committed at {number}"),
-            CommitEntry::Aborted => write!(f, "aborted"),
-        }
-    }
-}
-
-impl fmt::Display for FoundText {
-    fn fmt<W: fmt::Write>(&self, f: &mut fmt::Formatter<W>) -> fmt::Result {
-        match self.found {
-            Some(entry) => {
-                let text = EntryText { entry };
-                write!(f, "{text}")
-            }
+        match self.0 {
+            Some(entry) => write!(f, "{entry}"),
             None => write!(f, "no entry"),
         }
     }
 }
 
-impl fmt::Display for PlacingText {
+impl fmt::Display for Placed {
     fn fmt<W: fmt::Write>(&self, f: &mut fmt::Formatter<W>) -> fmt::Result {
-        match self.placing {
-            Placing::Placed => write!(f, "placed"),
-            Placing::Stands(entry) => {
-                let text = EntryText { entry };
-                write!(f, "stands {text}")
-            }
-            Placing::Full => write!(f, "full"),
+        match self.0 {
+            Ok(()) => write!(f, "placed"),
+            Err(why) => write!(f, "{why}"),
         }
     }
 }
 
-impl fmt::Display for DroppedText {
+impl fmt::Display for Dropped {
     fn fmt<W: fmt::Write>(&self, f: &mut fmt::Formatter<W>) -> fmt::Result {
-        if self.dropped {
-            write!(f, "dropped")
-        } else {
-            write!(f, "no entry")
-        }
+        f.write_str(if self.0 { "dropped" } else { "no entry" })
     }
 }

@@ -21,13 +21,14 @@ module _ {V : Type 0} (s : State V) (id k : ℕ) where
   read_no_row e = rw e refl
 
   module _ (p : Phase) (ks : List ℕ) (n : ℕ) (e : look_up s.rows id ≡ Some (transaction p ks n)) where
-    pub read_validated : (c : ℕ) → p ≡ Validated c → step s (Read id k) ≡ (s, Denied (WrongPhase id))
+    pub read_phase : (p ≡ Open → ⊥) → step s (Read id k) ≡ (s, Denied (WrongPhase id))
     unfolding step read_at read_in
-    read_validated c h = rw (e, h) refl
-
-    pub read_settled : (c : ℕ) → p ≡ Settled c → step s (Read id k) ≡ (s, Denied (WrongPhase id))
-    unfolding step read_at read_in
-    read_settled c h = rw (e, h) refl
+    read_phase h = rw e (go p h)
+      where
+        go : (q : Phase) → (q ≡ Open → ⊥) → read_in id k s q ≡ (s, Denied (WrongPhase id))
+        go Open h = absurd (h refl)
+        go (Validated c) h = refl
+        go (Settled c) h = refl
 
     module _ (h : p ≡ Open) where
       pub read_below : id < s.floor → step s (Read id k) ≡ (s, Denied (BelowFloor s.floor))

@@ -4,16 +4,14 @@
 
 ghost use Rattle.std.specs.Prelude.{◌≡◌};
 ghost use Rattle.model.specs.declared.call.Call.TheVariants.{Read};
+ghost use Rattle.model.specs.Answers.{value_answer};
 ghost use Rattle.model.specs.Step.{step};
 ghost use Rattle.engine.specs.Meaning.{database};
 ghost use Rattle.walks.specs.Reading.{read_answer};
-ghost use Rattle.reading.specs.Answers.{value_answer};
 
 use commit_table::CommitTable;
-use engine::Engine;
-use engine::rows::find_row;
-use model::{Phase, Record, Refusal, Row};
-use table::Table;
+use engine::{Engine, Tables};
+use model::{Phase, Record, Refusal};
 use version_store::VersionStore;
 use versions::questions::record_at;
 use walks::reading::walk;
@@ -31,35 +29,30 @@ fn value_found<V: Copy>(found: Result<Option<Record<V>>, Refusal>) -> Result<Opt
 /// Reads the key as it stood at the transaction's start, its own write first. A pending record on the way is stamped if it is committed, and aborted if it could still commit below the start.
 pub fn read<S: VersionStore, C: CommitTable>(
     engine: &mut Engine,
-    rows: &Table<Row>,
-    conflicts0: &Table<u64>,
-    conflicts1: &Table<u64>,
+    tables: &Tables,
     store: &mut S,
     commits: &mut C,
     id: u64,
     key: u64,
 ) -> Result<Option<S::Value>, Refusal>
-    ensures { (database engine.new rows.now conflicts0.now conflicts1.now (S.VersionStore.records store.new) (S.VersionStore.capacity store.new) (C.CommitTable.entries commits.new) (C.CommitTable.capacity commits.new), value_answer result)
-        ≡ step (database engine.old rows.now conflicts0.now conflicts1.now (S.VersionStore.records store.old) (S.VersionStore.capacity store.old) (C.CommitTable.entries commits.old) (C.CommitTable.capacity commits.old)) (Read id key) }
+    ensures { (database engine.new tables.now S.VersionStore store.new C.CommitTable commits.new, value_answer result)
+        ≡ step (database engine.old tables.now S.VersionStore store.old C.CommitTable commits.old) (Read id key) }
 {
-    let Some(row) = find_row(rows, id) else {
+    let Some(row) = tables.rows.find(id) else {
         return Err(Refusal::NoRow { id });
     };
-    match row.phase {
-        Phase::Validated(_) => Err(Refusal::WrongPhase { id }),
-        Phase::Settled(_) => Err(Refusal::WrongPhase { id }),
-        Phase::Open => {
-            if id < engine.floor {
-                return Err(Refusal::BelowFloor {
-                    floor: engine.floor,
-                });
-            }
-            if let Some(own) = record_at(store, key, id) {
-                engine.classes.raise(key, id);
-                return Ok(Some(own.value));
-            }
-            let found = walk(engine.fence, &mut engine.classes, store, commits, id, key);
-            value_found(found)
-        }
+    let Phase::Open = row.phase else {
+        return Err(Refusal::WrongPhase { id });
+    };
+    if id < engine.floor {
+        return Err(Refusal::BelowFloor {
+            floor: engine.floor,
+        });
     }
+    if let Some(own) = record_at(store, key, id) {
+        engine.classes.raise(key, id);
+        return Ok(Some(own.value));
+    }
+    let found = walk(engine.fence, &mut engine.classes, store, commits, id, key);
+    value_found(found)
 }

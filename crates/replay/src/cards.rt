@@ -1,7 +1,9 @@
 //! A run with price cards.
+use manager::steps::STEP;
 use model::{Call, PriceCard};
 
-pub const NONE: PriceCard = PriceCard {
+/// Fills the places that no value has.
+pub const FILLER: PriceCard = PriceCard {
     cents: 0,
     tax_class: 0,
     first_day: 0,
@@ -19,39 +21,34 @@ const NEW: PriceCard = PriceCard {
     first_day: 20100,
 };
 
+/// The transactions' ids, in order of their beginnings. The second one's commit has a step of its own before the third begins.
+const FIRST: u64 = STEP;
+
+const SECOND: u64 = 2 * STEP;
+
+const THIRD: u64 = 4 * STEP;
+
 pub const CARDS: [Call<PriceCard>; 15] = [
     Call::Takeover { seat: 0 },
     Call::FastWrite { key: 7, value: OLD },
     Call::FastRead { key: 7 },
     Call::Begin { seat: 0 },
     Call::Begin { seat: 0 },
-    Call::Read {
-        id: 1048576,
-        key: 7,
-    },
+    Call::Read { id: FIRST, key: 7 },
     Call::Write {
-        id: 2097152,
+        id: SECOND,
         key: 7,
         value: NEW,
     },
-    Call::Read {
-        id: 2097152,
-        key: 7,
-    },
+    Call::Read { id: SECOND, key: 7 },
     Call::Validate {
-        id: 2097152,
+        id: SECOND,
         seat: 0,
     },
-    Call::Settle { id: 2097152 },
-    Call::Read {
-        id: 1048576,
-        key: 7,
-    },
+    Call::Settle { id: SECOND },
+    Call::Read { id: FIRST, key: 7 },
     Call::Begin { seat: 0 },
-    Call::Read {
-        id: 4194304,
-        key: 7,
-    },
+    Call::Read { id: THIRD, key: 7 },
     Call::FastRead { key: 7 },
-    Call::Stamp { id: 2097152 },
+    Call::Stamp { id: SECOND },
 ];

@@ -3,49 +3,41 @@
 #![tactic(auto)]
 
 mod cards;
-mod hosts;
 mod parsing;
 mod runs;
 
-use anyhow::anyhow;
 use cards::CARDS;
-use hosts::{Pair, run_on};
+use host::{CommitTableKind, StoreKind, run_on};
 use model::{Answer, Call};
-use parsing::call_of;
+use parsing::TraceLine;
 use runs::{RUNS, Run};
 use std::alloc::Global;
 use std::fs;
 
+/// A version store and a commit table.
+type Pair = (StoreKind, CommitTableKind);
+
+const PAIRS: [Pair; 4] = [
+    (StoreKind::Shelf, CommitTableKind::Sheet),
+    (StoreKind::Shelf, CommitTableKind::Strip),
+    (StoreKind::Chains, CommitTableKind::Sheet),
+    (StoreKind::Chains, CommitTableKind::Strip),
+];
+
 fn calls_of(heap: Global, text: &str) -> anyhow::Result<Vec<Call<i64>>> {
     let mut calls = Vec::new(heap);
     for line in text.lines() {
-        let Ok(call) = call_of(line) else {
-            return Err(anyhow!("a line of a trace is no call"));
-        };
-        calls.push(call)?;
+        calls.push(line.parse::<TraceLine>()?.0)?;
     }
     Ok(calls)
 }
 
-/// Whether the line begins with the words of the front.
-fn begins_with(line: &str, front: &str) -> bool {
-    let mut words = line.split(' ');
-    for wanted in front.split(' ') {
-        let Some(word) = words.next() else {
-            return false;
-        };
-        if word != wanted {
-            return false;
-        }
-    }
-    true
-}
-
 /// Whether the answer is the expected line. A read's line also has the number under which its value stood, which a read does not answer.
 fn is_expected(call: &Call<i64>, shown: &str, expected: &str) -> bool {
-    match call {
-        Call::Read { .. } => begins_with(expected, shown),
-        _ => shown == expected,
+    match (call, expected.strip_prefix(shown)) {
+        (_, None) => false,
+        (Call::Read { .. }, Some(rest)) => rest.is_empty() || rest.starts_with(' '),
+        (_, Some(rest)) => rest.is_empty(),
     }
 }
 
@@ -58,38 +50,21 @@ fn departures(
     expected: &str,
 ) -> anyhow::Result<usize> {
     let heap = rt.alloc();
-    let mut line = 0usize;
     let mut wrong = 0usize;
-    for ((call, answer), wanted) in calls.iter().zip(answers.iter()).zip(expected.lines()) {
-        line = line.saturating_add(1);
+    for (i, ((call, answer), wanted)) in calls
+        .iter()
+        .zip(answers.iter())
+        .zip(expected.lines())
+        .enumerate()
+    {
         let shown = format!(in heap; "{answer}")?;
         if !is_expected(call, shown.as_str(), wanted) {
+            let line = i.saturating_add(1);
             println!(rt; "{name} line {line}: {call}: expected {wanted}, got {shown}")?;
             wrong = wrong.saturating_add(1);
         }
     }
     Ok(wrong)
-}
-
-fn departures_on(
-    rt: &HostRuntime,
-    run: &Run,
-    pair: Pair,
-    calls: &[Call<i64>],
-    expected: &str,
-) -> anyhow::Result<usize> {
-    let heap = rt.alloc();
-    let blank: Answer<i64> = Answer::Number(0);
-    let mut answers = vec![in heap; blank; calls.len()]?;
-    run_on(
-        heap,
-        pair,
-        &run.opening,
-        0i64,
-        calls,
-        answers.as_mut_slice(),
-    )?;
-    departures(rt, run.name, calls, answers.as_slice(), expected)
 }
 
 fn departures_everywhere(
@@ -98,16 +73,13 @@ fn departures_everywhere(
     calls: &[Call<i64>],
     expected: &str,
 ) -> anyhow::Result<usize> {
-    let on_shelf = departures_on(rt, run, Pair::ShelfAndSheet, calls, expected)?;
-    let on_strip = departures_on(rt, run, Pair::ShelfAndStrip, calls, expected)?;
-    let on_chains = departures_on(rt, run, Pair::ChainsAndSheet, calls, expected)?;
-    let on_both = departures_on(rt, run, Pair::ChainsAndStrip, calls, expected)?;
-    Ok(
-        on_shelf
-            .saturating_add(on_strip)
-            .saturating_add(on_chains)
-            .saturating_add(on_both),
-    )
+    let mut wrong = 0usize;
+    for (store, commits) in PAIRS {
+        let answers = run_on(rt.alloc(), store, commits, &run.opening, 0, calls)?;
+        let more = departures(rt, run.name, calls, answers.as_slice(), expected)?;
+        wrong = wrong.saturating_add(more);
+    }
+    Ok(wrong)
 }
 
 fn replay(rt: &HostRuntime, run: &Run) -> anyhow::Result<usize> {
@@ -127,25 +99,10 @@ fn replay(rt: &HostRuntime, run: &Run) -> anyhow::Result<usize> {
 
 fn show_cards(rt: &HostRuntime) -> anyhow::Result<()> {
     let heap = rt.alloc();
-    let blank = Answer::Number(0);
-    let mut first = vec![in heap; blank; CARDS.len()]?;
-    let mut second = vec![in heap; blank; CARDS.len()]?;
-    run_on(
-        heap,
-        Pair::ShelfAndSheet,
-        &runs::LARGE,
-        cards::NONE,
-        &CARDS,
-        first.as_mut_slice(),
-    )?;
-    run_on(
-        heap,
-        Pair::ChainsAndStrip,
-        &runs::LARGE,
-        cards::NONE,
-        &CARDS,
-        second.as_mut_slice(),
-    )?;
+    let (shelf, sheet) = (StoreKind::Shelf, CommitTableKind::Sheet);
+    let (chains, strip) = (StoreKind::Chains, CommitTableKind::Strip);
+    let first = run_on(heap, shelf, sheet, &runs::LARGE, cards::FILLER, &CARDS)?;
+    let second = run_on(heap, chains, strip, &runs::LARGE, cards::FILLER, &CARDS)?;
     for ((call, one), other) in CARDS.iter().zip(first.iter()).zip(second.iter()) {
         println!(rt; "{call}: {one} | {other}")?;
     }

@@ -1,4 +1,4 @@
-pub mod Ranks
 pub mod Indexes
-pub mod Calling
+pub mod Moves
+pub mod Searches
 pub mod Shelves

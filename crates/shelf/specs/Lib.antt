@@ -1,3 +1,3 @@
 pub mod Index
 pub mod Meaning
-pub mod Rank
+pub mod Search

@@ -9,7 +9,7 @@ use Rattle.shelf.specs.Index.{named}
 
 -- the records on a shelf, in order
 abbrev pub shelved : {V : Type 0} → Shelf V → List (Record V)
-shelved s = named s.memory.records.now (take s.len s.memory.index.now)
+shelved s = named s.records.now (take s.len s.index.now)
 
 -- a shelf is made over n places with as many index numbers
 abbrev pub making_both : ℕ → ℕ → Result Unit Refusal

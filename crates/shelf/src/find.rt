@@ -1,42 +1,20 @@
 //! Binary search by key and version.
-ghost use Rattle.std.specs.Prelude.{◌≡◌, ℕ, ◌<◌, length, MatchResult, slice_index, slice_index_or};
-ghost use Rattle.model.specs.Records.{stands, before};
+ghost use Rattle.std.specs.Prelude.{◌≡◌, ◌<◌, length, MatchResult, slice_index, slice_index_or};
+ghost use Rattle.std.specs.List.{slice_get};
 ghost use Rattle.shelf.specs.Meaning.{shelved};
-ghost use Rattle.shelf.specs.Rank.{rank, Hit, Miss};
+ghost use Rattle.shelf.specs.Search.{standing_of, Hit, Miss};
 
 use crate::shelf::Shelf;
 use model::Record;
-
-/// Whether that key and version come before r.
-fn is_before<V: Copy>(key: u64, version: u64, r: &Record<V>) -> bool
-    ensures { result ≡ before key version r.now }
-{
-    key < r.key || (key == r.key && version < r.version)
-}
-
-/// Whether r has that key and version.
-fn stands_at<V: Copy>(key: u64, version: u64, r: &Record<V>) -> bool
-    ensures { result ≡ stands key version r.now }
-{
-    key == r.key && version == r.version
-}
-
-/// The record at that place.
-fn read<V: Copy>(records: &[Record<V>], place: usize) -> Record<V>
-    requires { place < length records.now }
-    ensures { result ≡ slice_index_or records.now place result }
-{
-    records[place]
-}
+use std::cmp::Ordering;
 
 impl<'a, V: Copy> Shelf<'a, V> {
     /// The place that the index names at i.
     pub(crate) fn place(&self, i: usize) -> usize
-        requires { i < self.now.places }
-        ensures { result ≡ slice_index self.now.memory.index.now i }
+        requires { i < length self.now.index.now }
+        ensures { result ≡ slice_index self.now.index.now i }
     {
-        let index = &*self.memory.index;
-        index[i] as usize
+        usize::from(self.index[i])
     }
 
     /// The record that stands at i in the order.
@@ -44,41 +22,23 @@ impl<'a, V: Copy> Shelf<'a, V> {
         requires { i < self.now.len }
         ensures { result ≡ slice_index_or (shelved self.now) i result }
     {
-        let place = self.place(i);
-        read(self.memory.records, place)
+        self.records[self.place(i)]
     }
 
-    /// How many records stand at or before that key and version.
-    pub(crate) fn rank(&self, key: u64, version: u64) -> usize
-        ensures { result ≡ rank key version (shelved self.now) }
+    /// How the record at a place stands to that key and version. A search may ask it of any number, so a place past the end counts as below them.
+    fn compare(&self, place: u16, key: u64, version: u64) -> Ordering
+        ensures { result ≡ standing_of key version (slice_get self.now.records.now place) }
     {
-        let mut low = 0;
-        let mut high = self.len;
-        while low < high {
-            let middle = low + (high - low) / 2;
-            let r = self.record_at(middle);
-            if is_before(key, version, &r) {
-                high = middle;
-            } else {
-                low = middle + 1;
-            }
+        match self.records.get(usize::from(place)) {
+            Some(r) => (r.key, r.version).cmp(&(key, version)),
+            None => Ordering::Less,
         }
-        low
     }
 
     /// Where that key and version stand in the order, or else where they would go.
     pub(crate) fn find(&self, key: u64, version: u64) -> Result<usize, usize>
         ensures { MatchResult result (Hit (shelved self.now) key version) (Miss (shelved self.now) key version) }
     {
-        let rank = self.rank(key, version);
-        if rank == 0 {
-            return Err(0);
-        }
-        let r = self.record_at(rank - 1);
-        if stands_at(key, version, &r) {
-            Ok(rank - 1)
-        } else {
-            Err(rank)
-        }
+        self.index[..self.len].binary_search_by(|place| self.compare(*place, key, version))
     }
 }

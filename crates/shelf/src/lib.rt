@@ -2,10 +2,7 @@
 #![tactic(auto)]
 
 mod find;
-pub mod memory;
-mod moves;
 pub mod shelf;
 pub mod store;
 
-pub use memory::ShelfMemory;
 pub use shelf::Shelf;

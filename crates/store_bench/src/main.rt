@@ -4,141 +4,100 @@
 
 mod work;
 
-use crate::work::{Measured, blank, measure};
-use chains::{ChainsMemory, Node};
-use model::Record;
-use shelf::ShelfMemory;
+use chains::{Chains, Node};
+use model::{Record, Refusal};
+use shelf::Shelf;
 use std::{env, io};
+use version_store::VersionStore;
+use work::{Measured, measure};
 
 /// Each size, with how often the calls are repeated for it when they are timed.
 const SIZES: [(usize, u64); 3] = [(256, 2048), (1024, 512), (4096, 128)];
 
-fn on_shelf(
+/// The calls on a store, or why it was not made.
+fn measured<S: VersionStore<Value = i64> + Drop>(
     rt: &HostRuntime,
-    records: &mut [Record<i64>],
-    index: &mut [u16],
-    size: usize,
-    rounds: u64,
+    made: Result<S, Refusal>,
+    rounds: Option<u64>,
 ) -> io::Result<Measured> {
-    let n = size.min(records.len()).min(index.len());
-    match ShelfMemory::lent(&mut records[..n], &mut index[..n]) {
-        Ok(memory) => {
-            let mut shelf = memory.shelf();
-            measure(rt, &mut shelf, rounds)
-        }
+    match made {
+        Ok(mut store) => measure(rt, &mut store, rounds),
         Err(why) => {
             println!(rt; "{why}")?;
-            Ok(Measured::none())
+            Ok(Measured::default())
         }
     }
 }
 
-fn on_chains(
-    rt: &HostRuntime,
-    nodes: &mut [Node<i64>],
-    size: usize,
-    rounds: u64,
-) -> io::Result<Measured> {
-    let n = size.min(nodes.len());
-    match ChainsMemory::lent(&mut nodes[..n]) {
-        Ok(memory) => {
-            let mut chains = memory.chains();
-            measure(rt, &mut chains, rounds)
-        }
-        Err(why) => {
-            println!(rt; "{why}")?;
-            Ok(Measured::none())
-        }
-    }
+/// What each call cost on both stores.
+#[derive(Clone, Copy)]
+struct Pair {
+    shelf: Measured,
+    chains: Measured,
 }
 
 /// One line: a call's cost on both stores in nanoseconds, and in hundredths of its cost at the smallest size.
-fn line(rt: &HostRuntime, name: &str, now: (u64, u64), least: (u64, u64)) -> io::Result<()> {
-    let (shelf, chains) = now;
-    let (shelf_least, chains_least) = least;
-    let shelf_growth = shelf.wrapping_mul(100) / shelf_least.max(1);
-    let chains_growth = chains.wrapping_mul(100) / chains_least.max(1);
+fn line<F: Fn(&Measured) -> u64>(
+    rt: &HostRuntime,
+    name: &str,
+    now: &Pair,
+    least: &Pair,
+    cost: F,
+) -> io::Result<()>
+    requires { F.IsAlwaysCallable cost }
+{
+    let (shelf, chains) = (cost(&now.shelf), cost(&now.chains));
+    let shelf_growth = shelf.wrapping_mul(100) / cost(&least.shelf).max(1);
+    let chains_growth = chains.wrapping_mul(100) / cost(&least.chains).max(1);
     println!(rt;
         "  {name}: shelf {shelf} ns ({shelf_growth} %), chains {chains} ns ({chains_growth} %)"
     )
 }
 
-fn report(
-    rt: &HostRuntime,
-    shelf: &Measured,
-    chains: &Measured,
-    shelf_least: &Measured,
-    chains_least: &Measured,
-) -> io::Result<()> {
-    line(
-        rt,
-        "newest, found",
-        (shelf.newest, chains.newest),
-        (shelf_least.newest, chains_least.newest),
-    )?;
-    line(
-        rt,
-        "put, new",
-        (shelf.put_new, chains.put_new),
-        (shelf_least.put_new, chains_least.put_new),
-    )?;
-    line(
-        rt,
-        "put, replacing",
-        (shelf.put_over, chains.put_over),
-        (shelf_least.put_over, chains_least.put_over),
-    )?;
-    line(
-        rt,
-        "mark",
-        (shelf.mark, chains.mark),
-        (shelf_least.mark, chains_least.mark),
-    )?;
-    line(
-        rt,
-        "drop",
-        (shelf.dropped, chains.dropped),
-        (shelf_least.dropped, chains_least.dropped),
-    )
+fn report(rt: &HostRuntime, now: &Pair, least: &Pair) -> io::Result<()> {
+    line(rt, "newest, found", now, least, |cost| cost.newest)?;
+    line(rt, "put, new", now, least, |cost| cost.put_new)?;
+    line(rt, "put, replacing", now, least, |cost| cost.put_over)?;
+    line(rt, "mark", now, least, |cost| cost.mark)?;
+    line(rt, "drop", now, least, |cost| cost.dropped)
 }
 
 /// The calls on both stores at one size.
-fn at_size(rt: &HostRuntime, size: usize, rounds: u64) -> io::Result<(Measured, Measured)> {
-    let mut records = [blank(); 4096];
-    let mut index = [0u16; 4096];
-    let mut nodes = [Node::blank(blank()); 4096];
-    let shelf = on_shelf(rt, &mut records, &mut index, size, rounds)?;
-    let chains = on_chains(rt, &mut nodes, size, rounds)?;
-    Ok((shelf, chains))
+fn at_size(rt: &HostRuntime, size: usize, rounds: Option<u64>) -> io::Result<Pair> {
+    let heap = rt.alloc();
+    let unused = Record {
+        key: 0,
+        version: 0,
+        number: None,
+        value: 0i64,
+    };
+    let mut records = vec![in heap; unused; size]?;
+    let mut index = vec![in heap; 0u16; size]?;
+    let mut nodes = vec![in heap; Node::blank(); size]?;
+    let shelf = Shelf::over(records.as_mut_slice(), index.as_mut_slice());
+    let shelf = measured(rt, shelf, rounds)?;
+    let chains = Chains::over(nodes.as_mut_slice());
+    let chains = measured(rt, chains, rounds)?;
+    Ok(Pair { shelf, chains })
 }
 
 fn run(rt: &HostRuntime, timed: bool) -> io::Result<()> {
-    let mut least: Option<(Measured, Measured)> = None;
+    let mut least: Option<Pair> = None;
     for (size, often) in SIZES {
-        let rounds = if timed { often } else { 0 };
-        let (shelf, chains) = at_size(rt, size, rounds)?;
-        let shelf_sum = shelf.sum;
-        let chains_sum = chains.sum;
+        let rounds = if timed { Some(often) } else { None };
+        let now = at_size(rt, size, rounds)?;
+        let shelf_sum = now.shelf.sum;
+        let chains_sum = now.chains.sum;
         let same = shelf_sum == chains_sum;
         println!(rt; "{size} records: shelf {shelf_sum}, chains {chains_sum}, the same: {same}")?;
         if timed {
-            let (shelf_least, chains_least) = match least {
-                Some(pair) => pair,
-                None => (shelf, chains),
-            };
-            report(rt, &shelf, &chains, &shelf_least, &chains_least)?;
-            least = Some((shelf_least, chains_least));
+            report(rt, &now, least.get_or_insert(now))?;
         }
     }
     Ok(())
 }
 
 fn main(rt: HostRuntime) -> io::Result<()> {
-    let mut timed = false;
-    for word in env::args(&rt)? {
-        if word.as_str() == "time" {
-            timed = true;
-        }
-    }
+    let timed = env::args(&rt)?.any(|word| word.as_str() == "time");
     run(&rt, timed)
 }

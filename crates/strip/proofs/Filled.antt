@@ -1,17 +1,50 @@
--- Lists of entries in any order: where an id stands, one more entry at the end, and the last entry moved into a gap.
-use Rattle.std.proofs.Common.{◌≡◌, ℕ, zero, suc, ◌+◌, ◌-◌, ◌<◌, ◌≤◌, cond, eqb, ◌≢◌, ◌⊎◌, List, [], ◌∷◌, ◌++◌, length, get_or, set, Some, None, Option, sym, refl, ap, ◌∙◌, subst, inl, inr, ⊎_elim, arith}
-use Rattle.std.proofs.lemmas.Bool.{cases_lt, cases_eq, cases_order, eq-eqb, ne_eqb}
-use Rattle.std.proofs.lemmas.List.{length-append, length-set, length-take-le, get_or-take, get_or-set_same, get_or-set_other, get_or_append_left, get_or_push, get_or_default}
+-- Lists of entries in any order, no two of one id: where an id stands, one more entry at the end, and the last entry moved into a gap.
+use Rattle.std.specs.Option.{option_map}
+use Rattle.std.proofs.Common.{◌≡◌, Bool, true, false, IfSome, ℕ, zero, suc, ◌+◌, ◌-◌, ◌<◌, ◌≤◌, cond, eqb, ◌≢◌, List, [], ◌∷◌, ◌++◌, length, get_or, take, set, Some, None, Option, sym, refl, ap, ◌∙◌, subst, ⊎_elim, arith}
+use Rattle.std.proofs.lemmas.Bool.{cases_lt}
+use Rattle.std.proofs.lemmas.Bool.Decides.{nat_tests}
+use Rattle.std.proofs.lemmas.List.{length-set, length-take-le, length_push, take_more, take_all, take_at, set_at, set-append_left, get_or_at, get_or_append_left, get_or_default}
 use Rattle.model.specs.Maps.{is_there, look_up}
-use Rattle.table.proofs.Maps.{look_tail}
+use Rattle.model.proofs.Entering.{look_tail}
 use Rattle.strip.specs.Bodies.{Distinct, later, place_of, filled}
 use Rattle.strip.specs.Arranged.{Apart, look_none}
 
 module _ {X : Type 0} where
-  abbrev id_of : ℕ × X → ℕ
-  id_of e = e.0
+  -- at the place of an id stands its entry
+  later_place : (x : ℕ × X) (xs : List (ℕ × X)) (d : ℕ × X) (p : ℕ) → get_or xs p d ≡ get_or (x ∷ xs) (p + 1) d
+  later_place x xs d p = let k : suc p ≡ p + 1 = omega arith in ap (λ i. get_or (x ∷ xs) i d) k
 
-  pub look_apart : (es : List (ℕ × X)) (t : ℕ) → look_up es t ≡ None → Apart es t
+  pub look_by_place : (es : List (ℕ × X)) (t : ℕ) (d : ℕ × X) → look_up es t ≡ option_map (λ p. (get_or es p d).1) (place_of es t)
+  unfolding look_up
+  look_by_place [] t d = refl
+  look_by_place (x ∷ xs) t d = go (eqb t x.0) (place_of xs t) (look_by_place xs t d)
+    where
+      go : (b : Bool) (o : Option ℕ) → look_up xs t ≡ option_map (λ p. (get_or xs p d).1) o → cond b (Some x.1) (look_up xs t) ≡ option_map (λ p. (get_or (x ∷ xs) p d).1) (cond b (Some 0) (later o))
+      go true o e = refl
+      go false None e = e
+      go false (Some p) e = e ∙ ap (λ y. Some y.1) (later_place x xs d p)
+
+  id_by_place : (es : List (ℕ × X)) (t : ℕ) (d : ℕ × X) → IfSome (place_of es t) (λ p. (get_or es p d).0 ≡ t)
+  id_by_place [] t d = tt
+  id_by_place (x ∷ xs) t d = go (eqb t x.0) refl (place_of xs t) (id_by_place xs t d)
+    where
+      go : (b : Bool) → eqb t x.0 ≡ b → (o : Option ℕ) → IfSome o (λ p. (get_or xs p d).0 ≡ t) → IfSome (cond b (Some 0) (later o)) (λ p. (get_or (x ∷ xs) p d).0 ≡ t)
+      go true i o e = grind (arith, nat_tests)
+      go false i None e = tt
+      go false i (Some p) e = ap (λ y. y.0) (sym (later_place x xs d p)) ∙ e
+
+  pub id_at_place : (es : List (ℕ × X)) (t p : ℕ) (d : ℕ × X) → place_of es t ≡ Some p → (get_or es p d).0 ≡ t
+  id_at_place es t p d e = subst (λ o. IfSome o (λ p. (get_or es p d).0 ≡ t)) e (id_by_place es t d)
+
+  pub there_place : (es : List (ℕ × X)) (t : ℕ) (d : ℕ × X) → is_there (look_up es t) ≡ is_there (place_of es t)
+  there_place es t d = ap is_there (look_by_place es t d) ∙ mapped (place_of es t)
+    where
+      mapped : (o : Option ℕ) → is_there (option_map (λ p. (get_or es p d).1) o) ≡ is_there o
+      mapped None = refl
+      mapped (Some p) = refl
+
+  -- no two of one id, one entry on
+  look_apart : (es : List (ℕ × X)) (t : ℕ) → look_up es t ≡ None → Apart es t
   look_apart [] t e k d l = absurd (omega arith)
   look_apart (x ∷ xs) t e zero d l = λ z. (look_tail x xs t e).0 (sym z)
   look_apart (x ∷ xs) t e (suc k) d l = look_apart xs t (look_tail x xs t e).1 k d (omega arith)
@@ -19,170 +52,117 @@ module _ {X : Type 0} where
   distinct_tail : (x : ℕ × X) (xs : List (ℕ × X)) → Distinct (x ∷ xs) → Distinct xs
   distinct_tail x xs ne i j d h = ne (suc i) (suc j) d (omega arith, omega arith, h.2)
 
-  -- what stands at a place is found by its id
-  pub look_at : (es : List (ℕ × X)) (k t : ℕ) (d : ℕ × X) → Distinct es → k < length es → (get_or es k d).0 ≡ t → look_up es t ≡ Some (get_or es k d).1
-  unfolding look_up
-  look_at [] k t d ne l e = absurd (omega arith)
-  look_at (x ∷ xs) zero t d ne l e = rw (eq-eqb t x.0 (sym e)) refl
-  look_at (x ∷ xs) (suc k) t d ne l e = rw (ne_eqb t x.0 (λ z. ne 0 (suc k) d (omega arith, omega arith, sym z ∙ sym e))) (look_at xs k t d (distinct_tail x xs ne) (omega arith) e)
+  distinct_head : (x : ℕ × X) (xs : List (ℕ × X)) → Distinct (x ∷ xs) → look_up xs x.0 ≡ None
+  distinct_head x xs ne = look_none xs x.0 (λ k d l z. ne 0 (suc k) d (omega arith, omega arith, sym z))
 
-  -- an id stands at a place, or at none
-  pub place_or_none : (es : List (ℕ × X)) (t : ℕ) (d : ℕ × X) → ((k : ℕ) × (k < length es) × ((get_or es k d).0 ≡ t)) ⊎ (Apart es t)
-  place_or_none [] t d = inr (λ k e l. absurd (omega arith))
-  place_or_none (x ∷ xs) t d =
-      ⊎_elim
-      (λ (h : x.0 ≡ t). inl (0, omega arith, h))
-      (λ (h : x.0 ≡ t → ⊥).
-      ⊎_elim
-      (λ (q : (k : ℕ) × (k < length xs) × ((get_or xs k d).0 ≡ t)). inl (suc q.0, omega (arith, q.1), q.2))
-      (λ (q : Apart xs t). inr (apart_cons x xs t h q))
-      (place_or_none xs t d))
-      (cases_eq x.0 t)
-    where
-      apart_cons : (x : ℕ × X) (xs : List (ℕ × X)) (t : ℕ) → x.0 ≢ t → Apart xs t → Apart (x ∷ xs) t
-      apart_cons x xs t h q zero d l = h
-      apart_cons x xs t h q (suc k) d l = q k d (omega arith)
+  distinct_cons : (x : ℕ × X) (xs : List (ℕ × X)) → look_up xs x.0 ≡ None → Distinct xs → Distinct (x ∷ xs)
+  distinct_cons x xs n ne zero zero d h = absurd (omega arith)
+  distinct_cons x xs n ne (suc i) zero d h = absurd (omega arith)
+  distinct_cons x xs n ne zero (suc j) d h = look_apart xs x.0 n j d (omega arith) (sym h.2)
+  distinct_cons x xs n ne (suc i) (suc j) d h = ne i j d (omega arith, omega arith, h.2)
 
   -- one more entry, whose id is new
   pub look_push : (es : List (ℕ × X)) (e : ℕ × X) (t : ℕ) → look_up es e.0 ≡ None → look_up (es ++ e ∷ []) t ≡ cond (eqb t e.0) (Some e.1) (look_up es t)
   unfolding look_up
   look_push [] e t n = refl
-  look_push (x ∷ xs) e t n =
-      let r = look_tail x xs e.0 n in
-      ⊎_elim
-      (λ (h : t ≡ x.0). rw (eq-eqb t x.0 h, ne_eqb t e.0 (λ z. r.0 (sym z ∙ h))) refl)
-      (λ (h : t ≡ x.0 → ⊥). rw (ne_eqb t x.0 h) (look_push xs e t r.1))
-      (cases_eq t x.0)
+  look_push (x ∷ xs) e t n = let r = look_tail x xs e.0 n in grind (arith, nat_tests, look_push xs e t r.1)
 
   pub distinct_push : (es : List (ℕ × X)) (e : ℕ × X) → Distinct es → look_up es e.0 ≡ None → Distinct (es ++ e ∷ [])
-  distinct_push es e ne n i j d h =
-      let long = length-append es (e ∷ []) in
+  distinct_push [] e ne n = distinct_cons e [] n ne
+  distinct_push (x ∷ xs) e ne n =
+      let r = look_tail x xs e.0 n in
+      let h = distinct_head x xs ne in
+      let p = look_push xs e x.0 r.1 in
+      distinct_cons x (xs ++ e ∷ []) (grind (arith, nat_tests)) (distinct_push xs e (distinct_tail x xs ne) r.1)
+
+  distinct_front : (xs : List (ℕ × X)) (l : ℕ × X) → Distinct (xs ++ l ∷ []) → Distinct xs
+  distinct_front xs l ne i j d h =
       let i_in = h.0 in
       let j_in = h.1 in
-      let at_i = get_or_append_left es (e ∷ []) d i (omega arith) in
-      ⊎_elim
-      (λ (q : j < length es). ne i j d (h.0, q, sym (ap id_of at_i) ∙ h.2 ∙ ap id_of (get_or_append_left es (e ∷ []) d j q)))
-      (λ (q : length es ≤ j). look_apart es e.0 n i d (omega arith) (sym (ap id_of at_i) ∙ h.2 ∙ ap id_of (get_or_push es e d j (omega arith))))
-      (cases_lt j (length es))
+      ne i j d (i_in, omega (arith, length_push xs l), ap (λ e. e.0) (get_or_append_left xs (l ∷ []) d i (omega arith)) ∙ h.2 ∙ ap (λ e. e.0) (sym (get_or_append_left xs (l ∷ []) d j j_in)))
 
-  pub there_place : (es : List (ℕ × X)) (t : ℕ) → is_there (look_up es t) ≡ is_there (place_of es t)
+  distinct_last : (xs : List (ℕ × X)) (l : ℕ × X) → Distinct (xs ++ l ∷ []) → look_up xs l.0 ≡ None
+  distinct_last xs l ne = look_none xs l.0 (λ k d i z. ne k (length xs) d (i, omega (arith, length_push xs l), ap (λ e. e.0) (get_or_append_left xs (l ∷ []) d k i) ∙ z ∙ ap (λ e. e.0) (sym (get_or_at xs l [] d (length xs) refl))))
+
+  -- a new entry over the one at p
+  look_set_none : (xs : List (ℕ × X)) (p : ℕ) (l : ℕ × X) (q : ℕ) → look_up xs q ≡ None → q ≢ l.0 → look_up (set xs p l) q ≡ None
   unfolding look_up
-  there_place [] t = refl
-  there_place (e ∷ es) t =
-      ⊎_elim
-      (λ (h : t ≡ e.0). rw (eq-eqb t e.0 h) refl)
-      (λ (h : t ≡ e.0 → ⊥). rw (ne_eqb t e.0 h) (there_place es t ∙ some_later (place_of es t)))
-      (cases_eq t e.0)
-    where
-      some_later : (o : Option ℕ) → is_there o ≡ is_there (later o)
-      some_later None = refl
-      some_later (Some p) = refl
+  look_set_none [] p l q n o = refl
+  look_set_none (x ∷ xs) zero l q n o = grind (arith, nat_tests)
+  look_set_none (x ∷ xs) (suc p) l q n o = let r = look_tail x xs q n in grind (arith, nat_tests, look_set_none xs p l q r.1 o)
 
-  -- the list with its last entry moved over the one at p
+  distinct_set : (xs : List (ℕ × X)) (p : ℕ) (l : ℕ × X) → Distinct xs → look_up xs l.0 ≡ None → Distinct (set xs p l)
+  distinct_set [] p l ne n = ne
+  distinct_set (x ∷ xs) zero l ne n = distinct_cons l xs (look_tail x xs l.0 n).1 (distinct_tail x xs ne)
+  distinct_set (x ∷ xs) (suc p) l ne n =
+      let r = look_tail x xs l.0 n in
+      distinct_cons x (set xs p l) (look_set_none xs p l x.0 (distinct_head x xs ne) (λ z. r.0 (sym z))) (distinct_set xs p l (distinct_tail x xs ne) r.1)
+
+  look_set : (xs : List (ℕ × X)) (p : ℕ) (l d : ℕ × X) (t u : ℕ) → Distinct xs → look_up xs l.0 ≡ None → p < length xs → (get_or xs p d).0 ≡ t
+      → look_up (set xs p l) u ≡ cond (eqb u l.0) (Some l.1) (cond (eqb u t) None (look_up xs u))
+  unfolding look_up
+  look_set [] p l d t u ne n lp e = absurd (omega arith)
+  look_set (x ∷ xs) zero l d t u ne n lp e = let h = distinct_head x xs ne in grind (arith, nat_tests)
+  look_set (x ∷ xs) (suc p) l d t u ne n lp e =
+      let r = look_tail x xs l.0 n in
+      let h = look_apart xs x.0 (distinct_head x xs ne) p d (omega arith) in
+      grind (arith, nat_tests, look_set xs p l d t u (distinct_tail x xs ne) r.1 (omega arith) e)
+
+  -- a list that is not empty has a last entry
+  by_last : (P : List (ℕ × X) → Type 0) → ((xs : List (ℕ × X)) (l : ℕ × X) → P (xs ++ l ∷ [])) → (es : List (ℕ × X)) → 0 < length es → P es
+  by_last P f [] l = absurd (omega arith)
+  by_last P f (x ∷ xs) l =
+      let es = x ∷ xs in
+      let k : length xs + 1 ≡ length es = omega arith in
+      let e : es ≡ take (length xs) es ++ get_or es (length xs) x ∷ [] = sym (take_all (length xs + 1) es (omega arith)) ∙ take_more es (length xs) x (omega arith) in
+      subst P (sym e) (f (take (length xs) es) (get_or es (length xs) x))
+
+  -- the last entry moved over the one at p
+  pub filled_is : (es : List (ℕ × X)) (p : ℕ) (d : ℕ × X) → 0 < length es → filled es p ≡ take (length es - 1) (set es p (get_or es (length es - 1) d))
+  filled_is [] p d l = absurd (omega arith)
+  filled_is (x ∷ xs) p d l =
+      let k : length xs ≡ length (x ∷ xs) - 1 = omega arith in
+      ap (λ y. take (length xs) (set (x ∷ xs) p y)) (get_or_default (x ∷ xs) (length xs) x d (omega arith)) ∙ ap (λ i. take i (set (x ∷ xs) p (get_or (x ∷ xs) i d))) k
+
+  filled_push : (xs : List (ℕ × X)) (l : ℕ × X) (p : ℕ) → filled (xs ++ l ∷ []) p ≡ take (length xs) (set (xs ++ l ∷ []) p l)
+  filled_push xs l p =
+      let n = length_push xs l in
+      let k : length (xs ++ l ∷ []) - 1 ≡ length xs = omega arith in
+      filled_is (xs ++ l ∷ []) p l (omega arith) ∙ ap (λ i. take i (set (xs ++ l ∷ []) p (get_or (xs ++ l ∷ []) i l))) k ∙ ap (λ y. take (length xs) (set (xs ++ l ∷ []) p y)) (get_or_at xs l [] l (length xs) refl)
+
+  filled_below : (xs : List (ℕ × X)) (l : ℕ × X) (p : ℕ) → p < length xs → filled (xs ++ l ∷ []) p ≡ set xs p l
+  filled_below xs l p lt = filled_push xs l p ∙ ap (take (length xs)) (set-append_left xs (l ∷ []) p l lt) ∙ take_at (set xs p l) (l ∷ []) (length xs) (length-set xs p l)
+
+  filled_last : (xs : List (ℕ × X)) (l : ℕ × X) (p : ℕ) → length xs ≡ p → filled (xs ++ l ∷ []) p ≡ xs
+  filled_last xs l p e = filled_push xs l p ∙ ap (take (length xs)) (set_at xs l [] l p e) ∙ take_at xs (l ∷ []) (length xs) refl
+
   pub length_filled : (es : List (ℕ × X)) (p : ℕ) → length (filled es p) ≡ length es - 1
   length_filled [] p = refl
-  length_filled (x ∷ xs) p =
-      let z = get_or (x ∷ xs) (length xs) x in
-      let l = length-set (x ∷ xs) p z in
-      length-take-le (length xs) (set (x ∷ xs) p z) (omega arith) ∙ omega arith
+  length_filled (x ∷ xs) p = let l = length-set (x ∷ xs) p (get_or (x ∷ xs) (length xs) x) in length-take-le (length xs) (set (x ∷ xs) p (get_or (x ∷ xs) (length xs) x)) (omega arith) ∙ omega arith
 
-  pub getD_filled_other : (es : List (ℕ × X)) (p k : ℕ) (d : ℕ × X) → k ≢ p → k < length es - 1 → get_or (filled es p) k d ≡ get_or es k d
-  getD_filled_other [] p k d ne l = refl
-  getD_filled_other (x ∷ xs) p k d ne l =
-      let z = get_or (x ∷ xs) (length xs) x in
-      get_or-take (length xs) (set (x ∷ xs) p z) k d (omega arith) ∙ get_or-set_other (x ∷ xs) p k z d ne
-
-  pub getD_filled_here : (es : List (ℕ × X)) (p : ℕ) (d : ℕ × X) → p < length es - 1 → get_or (filled es p) p d ≡ get_or es (length es - 1) d
-  getD_filled_here [] p d l = absurd (omega arith)
-  getD_filled_here (x ∷ xs) p d l =
-      let z = get_or (x ∷ xs) (length xs) x in
-      let e : length xs ≡ length (x ∷ xs) - 1 = omega arith in
-      get_or-take (length xs) (set (x ∷ xs) p z) p d (omega arith) ∙ get_or-set_same (x ∷ xs) p z d (omega arith) ∙ get_or_default (x ∷ xs) (length xs) x d (omega arith) ∙ ap (λ n. get_or (x ∷ xs) n d) e
-
-  pub distinct_filled : (es : List (ℕ × X)) (p : ℕ) → Distinct es → Distinct (filled es p)
-  distinct_filled es p ne i j d h =
-      let long = length_filled es p in
-      let i_in = h.0 in
-      let j_in = h.1 in
-      let last = length es - 1 in
+  pub distinct_filled : (es : List (ℕ × X)) (p : ℕ) → p < length es → Distinct es → Distinct (filled es p)
+  distinct_filled es p lp =
+      by_last (λ es. p < length es → Distinct es → Distinct (filled es p)) (λ xs l lt ne.
+      let n = length_push xs l in
       ⊎_elim
-      (λ (a : i ≡ p).
-      let e : p ≡ i = sym a in
-      let at_i = subst (λ n. get_or (filled es p) n d ≡ get_or es last d) e (getD_filled_here es p d (omega arith)) in
-      ne j last d (omega arith, omega arith, sym (ap id_of (getD_filled_other es p j d (λ z. omega arith) (omega arith))) ∙ sym h.2 ∙ ap id_of at_i))
-      (λ (a : i ≡ p → ⊥).
-      let at_i = getD_filled_other es p i d a (omega arith) in
-      ⊎_elim
-      (λ (b : j ≡ p).
-      let e : p ≡ j = sym b in
-      let at_j = subst (λ n. get_or (filled es p) n d ≡ get_or es last d) e (getD_filled_here es p d (omega arith)) in
-      ne i last d (omega arith, omega arith, sym (ap id_of at_i) ∙ h.2 ∙ ap id_of at_j))
-      (λ (b : j ≡ p → ⊥). ne i j d (omega arith, omega arith, sym (ap id_of at_i) ∙ h.2 ∙ ap id_of (getD_filled_other es p j d b (omega arith))))
-      (cases_eq j p))
-      (cases_eq i p)
-
-  -- two places with one id are one place
-  distinct_same : (es : List (ℕ × X)) (i j : ℕ) (d : ℕ × X) → Distinct es → i < length es → j < length es → (get_or es i d).0 ≡ (get_or es j d).0 → i ≡ j
-  distinct_same es i j d ne li lj e =
-      ⊎_elim
-      (λ (q : i ≡ j). q)
-      (⊎_elim (λ (q : i < j). absurd (ne i j d (q, lj, e))) (λ (q : j < i). absurd (ne j i d (q, li, sym e))))
-      (cases_order i j)
-
-  -- each place of the filled list has an id of another place than p
-  filled_apart : (es : List (ℕ × X)) (p t : ℕ) (d : ℕ × X) → Distinct es → p < length es → (get_or es p d).0 ≡ t → (k : ℕ) → k < length es - 1 → (get_or (filled es p) k d).0 ≢ t
-  filled_apart es p t d ne lp e k l q =
-      ⊎_elim
-      (λ (a : k ≡ p). let b : p ≡ k = sym a in
-      let at_k = subst (λ n. get_or (filled es p) n d ≡ get_or es (length es - 1) d) b (getD_filled_here es p d (omega arith)) in
-      let same = distinct_same es p (length es - 1) d ne lp (omega arith) (e ∙ sym q ∙ ap id_of at_k) in
-      omega arith)
-      (λ (a : k ≡ p → ⊥). a (distinct_same es k p d ne (omega arith) lp (sym (ap id_of (getD_filled_other es p k d a l)) ∙ q ∙ sym e)))
-      (cases_eq k p)
+      (λ (h : p < length xs). subst Distinct (sym (filled_below xs l p h)) (distinct_set xs p l (distinct_front xs l ne) (distinct_last xs l ne)))
+      (λ (h : length xs ≤ p). subst Distinct (sym (filled_last xs l p (omega arith))) (distinct_front xs l ne))
+      (cases_lt p (length xs))) es (omega arith) lp
 
   pub look_filled : (es : List (ℕ × X)) (p t u : ℕ) (d : ℕ × X) → Distinct es → p < length es → (get_or es p d).0 ≡ t → look_up (filled es p) u ≡ cond (eqb u t) None (look_up es u)
   look_filled es p t u d ne lp e =
-      let long = length_filled es p in
-      let last = length es - 1 in
-      let nf = distinct_filled es p ne in
+      by_last (λ es. Distinct es → p < length es → (get_or es p d).0 ≡ t → look_up (filled es p) u ≡ cond (eqb u t) None (look_up es u)) (λ xs l ne lt at.
+      let n = length_push xs l in
+      let no = distinct_last xs l ne in
+      let all = look_push xs l u no in
       ⊎_elim
-      (λ (a : u ≡ t). rw (eq-eqb u t a) (look_none (filled es p) u (λ k f l q. filled_apart es p t d ne lp e k (omega arith) (ap id_of (get_or_default (filled es p) k d f l) ∙ q ∙ a))))
-      (λ (a : u ≡ t → ⊥).
-      rw (ne_eqb u t a)
-      (⊎_elim
-      (λ (q : (k : ℕ) × (k < length es) × ((get_or es k d).0 ≡ u)).
-      let k = q.0 in
-      let lk = q.1 in
-      let other : k ≢ p = λ z. a (sym q.2 ∙ ap (λ n. (get_or es n d).0) z ∙ e) in
-      let there = look_at es k u d ne lk q.2 in
-      ⊎_elim
-      (λ (b : k < last). let at_k = getD_filled_other es p k d other b in look_at (filled es p) k u d nf (omega arith) (ap id_of at_k ∙ q.2) ∙ ap (λ y. Some y.1) at_k ∙ sym there)
-      (λ (b : last ≤ k). let m : last ≡ k = omega arith in let at_p = getD_filled_here es p d (omega arith) ∙ ap (λ n. get_or es n d) m in look_at (filled es p) p u d nf (omega arith) (ap id_of at_p ∙ q.2) ∙ ap (λ y. Some y.1) at_p ∙ sym there)
-      (cases_lt k last))
-      (λ (q : Apart es u).
-      look_none (filled es p) u (λ k f l z.
-      ⊎_elim
-      (λ (b : k ≡ p). let c : p ≡ k = sym b in let at_k = subst (λ n. get_or (filled es p) n f ≡ get_or es last f) c (getD_filled_here es p f (omega arith)) in q last f (omega arith) (sym (ap id_of at_k) ∙ z))
-      (λ (b : k ≡ p → ⊥). q k f (omega arith) (sym (ap id_of (getD_filled_other es p k f b (omega arith))) ∙ z))
-      (cases_eq k p))
-      ∙ sym (look_none es u q))
-      (place_or_none es u d)))
-      (cases_eq u t)
-
-  -- where an id is found, it stands
-  pub place_stands_at : (es : List (ℕ × X)) (t p : ℕ) (d : ℕ × X) → place_of es t ≡ Some p → (p < length es) × ((get_or es p d).0 ≡ t)
-  place_stands_at [] t p d e = let z : ◌≡◌ {A = ℕ} 0 1 = cc in absurd (omega arith)
-  place_stands_at (x ∷ xs) t p d e =
-      ⊎_elim
-      (λ (h : t ≡ x.0). let f : place_of (x ∷ xs) t ≡ Some 0 = rw (eq-eqb t x.0 h) refl in let z : 0 ≡ p = cc in (omega arith, subst (λ n. (get_or (x ∷ xs) n d).0 ≡ t) z (sym h)))
-      (λ (h : t ≡ x.0 → ⊥). let f : later (place_of xs t) ≡ Some p = rw (ne_eqb t x.0 h) at e in step x xs t p d (λ i. place_stands_at xs t i d) (place_of xs t) refl f)
-      (cases_eq t x.0)
-    where
-      step : (x : ℕ × X) (xs : List (ℕ × X)) (t p : ℕ) (d : ℕ × X) (rest : (i : ℕ) → place_of xs t ≡ Some i → (i < length xs) × ((get_or xs i d).0 ≡ t)) (o : Option ℕ) → place_of xs t ≡ o → later o ≡ Some p → (p < length (x ∷ xs)) × ((get_or (x ∷ xs) p d).0 ≡ t)
-      step x xs t p d rest None e f = let z : ◌≡◌ {A = ℕ} 0 1 = cc in absurd (omega arith)
-      step x xs t p d rest (Some i) e f =
-          let r = rest i e in
-          let z : i + 1 ≡ p = cc in
-          let s : suc i ≡ p = omega arith in
-          let l = r.0 in
-          (omega arith, subst (λ n. (get_or (x ∷ xs) n d).0 ≡ t) s r.1)
+      (λ (h : p < length xs).
+      let is : (get_or xs p d).0 ≡ t = ap (λ e. e.0) (sym (get_or_append_left xs (l ∷ []) d p h)) ∙ at in
+      let o = look_apart xs l.0 no p d h in
+      let s = look_set xs p l d t u (distinct_front xs l ne) no h is in
+      ap (λ fs. look_up fs u) (filled_below xs l p h) ∙ grind (arith, nat_tests))
+      (λ (h : length xs ≤ p).
+      let k : length xs ≡ p = omega arith in
+      let is : l.0 ≡ t = ap (λ e. e.0) (sym (get_or_at xs l [] d p k)) ∙ at in
+      ap (λ fs. look_up fs u) (filled_last xs l p k) ∙ grind (arith, nat_tests))
+      (cases_lt p (length xs))) es (omega arith) ne lp e

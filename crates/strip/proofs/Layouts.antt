@@ -1,6 +1,7 @@
--- Body in bytes: what is read is what was written, and where a write lands.
-use Rattle.std.proofs.Common.{◌≡◌, ℕ, ◌+◌, ◌-◌, ◌*◌, ◌^◌, ◌<◌, ◌≤◌, List, [], ◌∷◌, ◌++◌, length, get_or, drop, replicate, sym, refl, ap, ◌∙◌, append_assoc, arith}
+-- Entries in bytes: what is read is what was written, and where a write lands.
+use Rattle.std.proofs.Common.{◌≡◌, ℕ, ◌+◌, ◌-◌, ◌*◌, ◌^◌, ◌<◌, ◌≤◌, List, [], ◌∷◌, ◌++◌, length, get_or, drop, replicate, All, sym, refl, ap, ◌∙◌, append_assoc, arith}
 use Rattle.std.proofs.lemmas.List.{length-append, take_at, drop_at}
+use Rattle.std.proofs.lemmas.List.Elements.{All-nil, All-cons, All-head, All-tail}
 use Rattle.model.specs.declared.words.CommitEntry.{CommitEntry}
 use Rattle.model.specs.declared.words.CommitEntry.TheVariants.{Committed, Aborted}
 use Rattle.strip.specs.Layout.{IdEntry, in_8, read_8, read_2, kind_of, number_of, entry_of, entry_bytes, body, strip_bytes, read_entry, read_body, write_over, SixtyFour, Telling}
@@ -25,21 +26,17 @@ entry_read Aborted h = refl
 sound_entry : (r : IdEntry) → r.0 < 2 ^ 64 → number_of r.1 < 2 ^ 64 → Sound r
 sound_entry r h k = entry_eq (read_8 (in_8 r.0)) r.0 (entry_of (kind_of r.1) (read_8 (in_8 (number_of r.1)))) r.1 (read_in_8 r.0 h) (entry_read r.1 k)
 
-abbrev pub Sounds : List IdEntry → Type 0
-Sounds [] = Unit {0}
-Sounds (r ∷ rs) = Sound r × Sounds rs
+pub sounds_fit : (rs : List IdEntry) → SixtyFour rs → All Sound rs
+sounds_fit [] f = All-nil Sound
+sounds_fit (r ∷ rs) f = All-cons Sound r rs (sound_entry r f.0 f.1) (sounds_fit rs f.2)
 
-pub sounds_fit : (rs : List IdEntry) → SixtyFour rs → Sounds rs
-sounds_fit [] f = tt
-sounds_fit (r ∷ rs) f = (sound_entry r f.0 f.1, sounds_fit rs f.2)
-
-pub read_body_of : (rs : List IdEntry) (z : List ℕ) → Sounds rs → read_body (length rs) (body rs ++ z) ≡ rs
+pub read_body_of : (rs : List IdEntry) (z : List ℕ) → All Sound rs → read_body (length rs) (body rs ++ z) ≡ rs
 read_body_of [] z s = refl
-read_body_of (r ∷ rs) z s = ap (λ x. x ∷ read_body (length rs) (body rs ++ z)) s.0 ∙ ap (λ l. r ∷ l) (read_body_of rs z s.1)
+read_body_of (r ∷ rs) z s = ap (λ x. x ∷ read_body (length rs) (body rs ++ z)) (All-head Sound r rs s) ∙ ap (λ l. r ∷ l) (read_body_of rs z (All-tail Sound r rs s))
 
-pub sounds_body : (rs : List IdEntry) (z : List ℕ) → read_body (length rs) (body rs ++ z) ≡ rs → Sounds rs
-sounds_body [] z e = tt
-sounds_body (r ∷ rs) z e = (ap (λ l. get_or l 0 r) e, sounds_body rs z (ap (λ l. drop 1 l) e))
+pub sounds_body : (rs : List IdEntry) (z : List ℕ) → read_body (length rs) (body rs ++ z) ≡ rs → All Sound rs
+sounds_body [] z e = All-nil Sound
+sounds_body (r ∷ rs) z e = All-cons Sound r rs (ap (λ l. get_or l 0 r) e) (sounds_body rs z (ap (λ l. drop 1 l) e))
 
 pub length_body : (rs : List IdEntry) → length (body rs) ≡ 24 * length rs
 length_body [] = refl
@@ -49,7 +46,7 @@ pub body_append : (xs ys : List IdEntry) → body (xs ++ ys) ≡ body xs ++ body
 body_append [] ys = refl
 body_append (x ∷ xs) ys = ap (λ l. entry_bytes x ++ l) (body_append xs ys)
 
--- a write write-over the middle part
+-- a write over the middle part
 pub over_mid : (a b c part : List ℕ) (at : ℕ) → length a ≡ at → length b ≡ length part → write_over at part (a ++ (b ++ c)) ≡ a ++ (part ++ c)
 over_mid a b c part at la lb =
     let front = take_at a (b ++ c) at la in

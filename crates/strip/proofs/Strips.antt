@@ -1,15 +1,20 @@
--- The bytes of a strip-bytes before and after a call.
-use Rattle.std.proofs.Common.{◌≡◌, ℕ, zero, suc, ◌+◌, ◌-◌, ◌*◌, ◌/◌, ◌<◌, ◌≤◌, List, [], ◌∷◌, ◌++◌, length, get_or, take, drop, set, replicate, sym, refl, ap, ◌∙◌, arith}
+-- The bytes of a strip, before a call and after it.
+use Rattle.std.proofs.Common.{◌≡◌, ℕ, suc, ◌+◌, ◌-◌, ◌*◌, ◌/◌, ◌<◌, ◌≤◌, List, [], ◌∷◌, ◌++◌, length, get_or, take, drop, set, replicate, All, None, sym, refl, ap, ◌∙◌, subst, arith}
+use Rattle.std.specs.List.{copy_within}
 use Rattle.std.proofs.Math.Seq.{split_at}
-use Rattle.std.proofs.lemmas.List.{length-append, length-replicate, length-set, length-take-le, take_at, drop_at, drop_all, append_assoc, append-nil, replicate-append-replicate, set_split}
-use Rattle.strip.specs.Bodies.{filled}
-use Rattle.strip.proofs.Filled.{length_filled}
-use Rattle.strip.specs.Layout.{IdEntry, entry_bytes, body, header, strip_bytes, read_body, write_over}
-use Rattle.strip.specs.Meaning.{length_read_body}
-use Rattle.strip.proofs.Layouts.{Sound, Sounds, read_body_of, sounds_body, length_body, body_append, over_mid}
+use Rattle.std.proofs.lemmas.List.{length-append, length_push, length-replicate, length-set, length-take-le, length-drop, take_at, drop_at, drop_all, append_assoc, append-nil, replicate-append-replicate, set_split}
+use Rattle.std.proofs.lemmas.List.Elements.{All-push, All-take, All-set, All-get_or}
+use Rattle.strip.specs.declared.strip.Strip.{Strip}
+use Rattle.model.specs.Maps.{look_up}
+use Rattle.model.specs.declared.words.CommitEntry.TheVariants.{Aborted}
+use Rattle.strip.specs.Bodies.{Distinct, filled}
+use Rattle.strip.specs.Arranged.{look_arranged}
+use Rattle.strip.specs.Layout.{IdEntry, entry_bytes, body, header, strip_bytes, read_entry, read_body, write_over}
+use Rattle.strip.specs.Meaning.{bytes_of, body_of, strip_entries, length_read_body}
+use Rattle.strip.proofs.Filled.{filled_is, length_filled, distinct_push, distinct_filled}
+use Rattle.strip.proofs.Layouts.{Sound, read_body_of, sounds_body, length_body, body_append, over_mid}
 
--- how long it is
-pub strip_length : (m : ℕ) (es : List IdEntry) → length es ≤ m → length (strip_bytes m es) ≡ 16 + 24 * m
+strip_length : (m : ℕ) (es : List IdEntry) → length es ≤ m → length (strip_bytes m es) ≡ 16 + 24 * m
 strip_length m es le =
     let z = replicate {A = ℕ} (24 * (m - length es)) 0 in
     let a = length-append (body es) z in
@@ -17,70 +22,52 @@ strip_length m es le =
     let c : length z ≡ 24 * (m - length es) = length-replicate {A = ℕ} (24 * (m - length es)) 0 in
     omega arith
 
--- the entries that stand in it are read as they were written
-pub sounds_in : (m n : ℕ) (bs : List ℕ) → bs ≡ strip_bytes m (read_body n (drop 16 bs)) → Sounds (read_body n (drop 16 bs))
+-- how long they are
+pub length_bytes : (s : Strip) → length s.bytes.now ≡ 16 + 24 * s.capacity
+length_bytes s = let l = length_read_body s.count (drop 16 (bytes_of s)) in let w = s.within in ap length s.whole ∙ strip_length s.capacity (body_of s) (omega arith)
+
+-- the part with the entries
+pub body_part : (s : Strip) (end : ℕ) → end ≡ 16 + 24 * s.count → take (end - 16) (drop 16 s.bytes.now) ≡ body (body_of s)
+body_part s end e =
+    let b = length_body (body_of s) in
+    let l = length_read_body s.count (drop 16 (bytes_of s)) in
+    ap (λ x. take (end - 16) (drop 16 x)) s.whole ∙ take_at (body (body_of s)) (replicate (24 * (s.capacity - length (body_of s))) 0) (end - 16) (omega arith)
+
+-- the entries that stand there are read as they were written
+sounds_in : (m n : ℕ) (bs : List ℕ) → bs ≡ strip_bytes m (read_body n (drop 16 bs)) → All Sound (read_body n (drop 16 bs))
 sounds_in m n bs e =
     let es = read_body n (drop 16 bs) in
     let z = replicate {A = ℕ} (24 * (m - length es)) 0 in
     sounds_body es z (ap (λ k. read_body k (body es ++ z)) (length_read_body n (drop 16 bs)) ∙ sym (ap (λ b. read_body n (drop 16 b)) e))
 
--- the part with the entries is their body
-pub part_body : (m n : ℕ) (bs : List ℕ) (es : List IdEntry) → bs ≡ strip_bytes m es → length es ≡ n → take ((16 + 24 * n) - 16) (drop 16 bs) ≡ body es
-part_body m n bs es e l =
-    let b = length_body es in
-    ap (λ x. take ((16 + 24 * n) - 16) (drop 16 x)) e ∙ take_at (body es) (replicate (24 * (m - length es)) 0) ((16 + 24 * n) - 16) (omega arith)
-
--- the entries of a body
-pub read_part : (es : List IdEntry) → Sounds es → read_body (length (body es) / 24) (body es) ≡ es
-read_part es s =
+-- and so from their part alone
+pub read_part : (s : Strip) (bs : List ℕ) → bs ≡ body (body_of s) → read_body (length bs / 24) bs ≡ body_of s
+read_part s bs e =
+    let es = body_of s in
     let b = length_body es in
     let n : length (body es) / 24 ≡ length es = omega arith in
-    ap (λ k. read_body k (body es)) n ∙ ap (λ x. read_body (length es) x) (sym (append-nil (body es))) ∙ read_body_of es [] s
+    ap (λ b. read_body (length b / 24) b) e ∙ ap (λ k. read_body k (body es)) n ∙ ap (λ x. read_body (length es) x) (sym (append-nil (body es))) ∙ read_body_of es [] (sounds_in s.capacity s.count (bytes_of s) s.whole)
 
--- the entries of the whole
-pub read_whole : (m n : ℕ) (ys : List ℕ) (es : List IdEntry) → ys ≡ strip_bytes m es → length es ≡ n → Sounds es → read_body n (drop 16 ys) ≡ es
-read_whole m n ys es e l s = ap (λ y. read_body n (drop 16 y)) e ∙ ap (λ k. read_body k (body es ++ replicate (24 * (m - length es)) 0)) (sym l) ∙ read_body_of es _ s
+sounds_filled : (es : List IdEntry) (p : ℕ) → All Sound es → All Sound (filled es p)
+sounds_filled [] p s = s
+sounds_filled (x ∷ xs) p s = All-take Sound (length xs) _ (All-set Sound (x ∷ xs) p _ (All-get_or Sound (x ∷ xs) (length xs) x (omega arith) s) s)
 
-pub sounds_push : (es : List IdEntry) (r : IdEntry) → Sounds es → Sound r → Sounds (es ++ r ∷ [])
-sounds_push [] r s h = (h, tt)
-sounds_push (x ∷ xs) r s h = (s.0, sounds_push xs r s.1 h)
-
-sounds_take : (n : ℕ) (es : List IdEntry) → Sounds es → Sounds (take n es)
-sounds_take zero es s = tt
-sounds_take (suc n) [] s = tt
-sounds_take (suc n) (r ∷ es) s = (s.0, sounds_take n es s.1)
-
-sounds_set : (es : List IdEntry) (p : ℕ) (z : IdEntry) → Sounds es → Sound z → Sounds (set es p z)
-sounds_set [] p z s h = tt
-sounds_set (r ∷ es) zero z s h = (h, s.1)
-sounds_set (r ∷ es) (suc p) z s h = (s.0, sounds_set es p z s.1 h)
-
-sounds_at : (es : List IdEntry) (k : ℕ) (d : IdEntry) → Sounds es → k < length es → Sound (get_or es k d)
-sounds_at [] k d s l = absurd (omega arith)
-sounds_at (r ∷ es) zero d s l = s.0
-sounds_at (r ∷ es) (suc k) d s l = sounds_at es k d s.1 (omega arith)
-
-pub sounds_filled : (es : List IdEntry) (p : ℕ) → Sounds es → Sounds (filled es p)
-sounds_filled [] p s = tt
-sounds_filled (x ∷ xs) p s = sounds_take (length xs) (set (x ∷ xs) p (get_or (x ∷ xs) (length xs) x)) (sounds_set (x ∷ xs) p (get_or (x ∷ xs) (length xs) x) s (sounds_at (x ∷ xs) (length xs) x s (omega arith)))
-
--- a write write-over the header
+-- a write over the header
 over_header : (m n k : ℕ) (c : List ℕ) → write_over 0 (header m n) (header m k ++ c) ≡ header m n ++ c
 over_header m n k c = over_mid [] (header m k) c (header m n) 0 refl refl
 
--- an entry was added
-pub grown : (m n : ℕ) (bs ys : List ℕ) (es : List IdEntry) (r : IdEntry) → bs ≡ strip_bytes m es → length es ≡ n → n < m → ys ≡ write_over 0 (header m (n + 1)) (write_over (16 + 24 * n) (entry_bytes r) bs) → ys ≡ strip_bytes m (es ++ r ∷ [])
-grown m n bs ys es r e l lt is =
-    let h = header m (length es) in
+-- an entry is written after the others
+added : (m : ℕ) (es : List IdEntry) (r : IdEntry) → length es < m → write_over 0 (header m (length es + 1)) (write_over (16 + 24 * length es) (entry_bytes r) (strip_bytes m es)) ≡ strip_bytes m (es ++ r ∷ [])
+added m es r lt =
+    let n = length es in
+    let h = header m n in
     let z = replicate {A = ℕ} (24 * (m - (n + 1))) 0 in
-    let lb = length_body es in
-    let split : replicate {A = ℕ} (24 * (m - length es)) 0 ≡ replicate 24 0 ++ z = let k : 24 * (m - length es) ≡ 24 + 24 * (m - (n + 1)) = omega arith in ap (λ i. replicate {A = ℕ} i 0) k ∙ sym (replicate-append-replicate 24 (24 * (m - (n + 1))) 0) in
-    let la : length (h ++ body es) ≡ 16 + 24 * n = length-append h (body es) ∙ omega arith in
-    let one : write_over (16 + 24 * n) (entry_bytes r) bs ≡ (h ++ body es) ++ (entry_bytes r ++ z) = ap (write_over (16 + 24 * n) (entry_bytes r)) (e ∙ ap (λ y. h ++ (body es ++ y)) split ∙ sym (append_assoc h (body es) (replicate 24 0 ++ z))) ∙ over_mid (h ++ body es) (replicate 24 0) z (entry_bytes r) (16 + 24 * n) la refl in
-    let long : length (es ++ r ∷ []) ≡ n + 1 = length-append es (r ∷ []) ∙ omega arith in
-    let two : (h ++ body es) ++ (entry_bytes r ++ z) ≡ h ++ (body (es ++ r ∷ []) ++ z) = append_assoc h (body es) (entry_bytes r ++ z) ∙ ap (λ y. h ++ y) (sym (append_assoc (body es) (entry_bytes r) z) ∙ ap (λ y. y ++ z) (sym (body_append es (r ∷ [])))) in
-    is ∙ ap (write_over 0 (header m (n + 1))) (one ∙ two) ∙ over_header m (n + 1) (length es) (body (es ++ r ∷ []) ++ z)
-    ∙ ap (λ k. header m k ++ (body (es ++ r ∷ []) ++ replicate (24 * (m - k)) 0)) (sym long)
+    let k : 24 * (m - n) ≡ 24 + 24 * (m - (n + 1)) = omega arith in
+    let room : replicate {A = ℕ} (24 * (m - n)) 0 ≡ replicate 24 0 ++ z = ap (λ i. replicate {A = ℕ} i 0) k ∙ sym (replicate-append-replicate 24 (24 * (m - (n + 1))) 0) in
+    let split : strip_bytes m es ≡ (h ++ body es) ++ (replicate 24 0 ++ z) = ap (λ y. h ++ (body es ++ y)) room ∙ sym (append_assoc h (body es) (replicate 24 0 ++ z)) in
+    let l : length (h ++ body es) ≡ 16 + 24 * n = length-append h (body es) ∙ omega (arith, length_body es) in
+    let last : header m (n + 1) ++ (body es ++ (entry_bytes r ++ z)) ≡ strip_bytes m (es ++ r ∷ []) = simp (body_append, length_push, append_assoc) in
+    ap (λ b. write_over 0 (header m (n + 1)) (write_over (16 + 24 * n) (entry_bytes r) b)) split ∙ ap (write_over 0 (header m (n + 1))) (over_mid (h ++ body es) (replicate 24 0) z (entry_bytes r) (16 + 24 * n) l refl ∙ append_assoc h (body es) (entry_bytes r ++ z)) ∙ over_header m (n + 1) n (body es ++ (entry_bytes r ++ z)) ∙ last
 
 -- the bytes before an entry, the entry, and the bytes after it
 cut_at : (h : List ℕ) (es : List IdEntry) (p : ℕ) (z : List ℕ) (d : IdEntry) → p < length es → h ++ (body es ++ z) ≡ (h ++ body (take p es)) ++ (entry_bytes (get_or es p d) ++ (body (drop (suc p) es) ++ z))
@@ -103,7 +90,7 @@ one_read h es p z d lh lt =
     let y = entry_bytes (get_or es p d) in
     ap (λ w. take 24 (drop (16 + 24 * p) w)) (cut_at h es p z d lt) ∙ ap (take 24) (drop_at f (y ++ b) (16 + 24 * p) (before_long h es p lh (omega arith))) ∙ take_at y b 24 refl
 
--- a write write-over a row
+-- a write over a row
 over_one : (h : List ℕ) (es : List IdEntry) (p : ℕ) (part z : List ℕ) (d : IdEntry) → length h ≡ 16 → length part ≡ 24 → p < length es → write_over (16 + 24 * p) part (h ++ (body es ++ z)) ≡ h ++ (body (take p es) ++ (part ++ (body (drop (suc p) es) ++ z)))
 over_one h es p part z d lh lp lt =
     let f = body (take p es) in
@@ -117,49 +104,81 @@ over_set h es p y z lh lt =
     let made : body (set es p y) ≡ f ++ (entry_bytes y ++ b) = ap body (set_split es p y lt) ∙ body_append (take p es) (y ∷ drop (suc p) es) in
     over_one h es p (entry_bytes y) z y lh refl lt ∙ sym (ap (λ w. h ++ (w ++ z)) made ∙ simp append_assoc)
 
--- an entry was dropped
-pub shrunk : (m k p : ℕ) (bs ys : List ℕ) (es : List IdEntry) → bs ≡ strip_bytes m es → length es ≡ k + 1 → p ≤ k → k < m → ys ≡ write_over 0 (header m k) (write_over (16 + 24 * k) (replicate 24 0) (write_over (16 + 24 * p) (take 24 (drop (16 + 24 * k) bs)) bs)) → ys ≡ strip_bytes m (filled es p)
-shrunk m k p bs ys [] e l le lt is = absurd (omega arith)
-shrunk m k p bs ys (x ∷ xs) e l le lt is =
-    let es = x ∷ xs in
+-- an entry that is copied is written over what stood there
+copied : (bs : List ℕ) (at gap : ℕ) → at + 24 ≤ length bs → copy_within bs at (at + 24) gap ≡ write_over gap (take 24 (drop at bs)) bs
+copied bs at gap le =
+    let part = take 24 (drop at bs) in
+    let k : (at + 24) - at ≡ 24 = omega arith in
+    let d = length-drop at bs in
+    let l : length part ≡ 24 = length-take-le 24 (drop at bs) (omega arith) in
+    ap (λ n. (take gap bs ++ take n (drop at bs)) ++ drop (gap + n) bs) k ∙ append_assoc (take gap bs) part (drop (gap + 24) bs) ∙ ap (λ n. take gap bs ++ (part ++ drop (gap + n) bs)) (sym l)
+
+-- the last entry is written over the one at p
+moved : (m k p : ℕ) (es : List IdEntry) (d : IdEntry) → k < length es → p < length es → write_over (16 + 24 * p) (take 24 (drop (16 + 24 * k) (strip_bytes m es))) (strip_bytes m es) ≡ strip_bytes m (set es p (get_or es k d))
+moved m k p es d kl pl =
     let h = header m (length es) in
     let z = replicate {A = ℕ} (24 * (m - length es)) 0 in
-    let q : length xs ≡ k = omega arith in
-    let y = get_or es k x in
-    let ws = set es p y in
-    let lw = length-set es p y in
-    let one : write_over (16 + 24 * p) (take 24 (drop (16 + 24 * k) bs)) bs ≡ h ++ (body ws ++ z) = ap (λ b. write_over (16 + 24 * p) (take 24 (drop (16 + 24 * k) b)) b) e ∙ ap (λ part. write_over (16 + 24 * p) part (h ++ (body es ++ z))) (one_read h es k z x refl (omega arith)) ∙ over_set h es p y z refl (omega arith) in
-    let none : body (drop (suc k) ws) ≡ [] = ap body (drop_all (suc k) ws (omega arith)) in
-    let zeros : replicate 24 0 ++ z ≡ replicate {A = ℕ} (24 * (m - k)) 0 = let n : 24 + 24 * (m - length es) ≡ 24 * (m - k) = omega arith in replicate-append-replicate 24 (24 * (m - length es)) 0 ∙ ap (λ i. replicate {A = ℕ} i 0) n in
-    let two : write_over (16 + 24 * k) (replicate 24 0) (h ++ (body ws ++ z)) ≡ h ++ (body (take k ws) ++ replicate (24 * (m - k)) 0) = over_one h ws k (replicate 24 0) z x refl refl (omega arith) ∙ ap (λ b. h ++ (body (take k ws) ++ (replicate 24 0 ++ (b ++ z)))) none ∙ ap (λ b. h ++ (body (take k ws) ++ b)) zeros in
-    let same : take k ws ≡ filled es p = ap (λ i. take i (set es p (get_or es i x))) (sym q) in
-    let long : length (take k ws) ≡ k = length-take-le k ws (omega arith) in
-    is ∙ ap (λ b. write_over 0 (header m k) (write_over (16 + 24 * k) (replicate 24 0) b)) one ∙ ap (write_over 0 (header m k)) two ∙ over_header m k (length es) (body (take k ws) ++ replicate (24 * (m - k)) 0)
-    ∙ ap (λ i. header m i ++ (body (take k ws) ++ replicate (24 * (m - i)) 0)) (sym long) ∙ ap (strip_bytes m) same
+    let y = get_or es k d in
+    ap (λ part. write_over (16 + 24 * p) part (strip_bytes m es)) (one_read h es k z d refl kl) ∙ over_set h es p y z refl pl ∙ ap (λ n. header m n ++ (body (set es p y) ++ replicate (24 * (m - n)) 0)) (sym (length-set es p y))
 
--- bytes that are a strip-bytes of the rows es
+-- the last entry gives way to zeros
+cleared : (m k : ℕ) (es : List IdEntry) (d : IdEntry) → length es ≡ k + 1 → k < m → write_over 0 (header m k) (write_over (16 + 24 * k) (replicate 24 0) (strip_bytes m es)) ≡ strip_bytes m (take k es)
+cleared m k es d l lt =
+    let h = header m (length es) in
+    let z = replicate {A = ℕ} (24 * (m - length es)) 0 in
+    let none : body (drop (suc k) es) ≡ [] = ap body (drop_all (suc k) es (omega arith)) in
+    let n : 24 + 24 * (m - length es) ≡ 24 * (m - k) = omega arith in
+    let zeros : replicate 24 0 ++ z ≡ replicate {A = ℕ} (24 * (m - k)) 0 = replicate-append-replicate 24 (24 * (m - length es)) 0 ∙ ap (λ i. replicate {A = ℕ} i 0) n in
+    let rest : body (take k es) ++ (replicate 24 0 ++ (body (drop (suc k) es) ++ z)) ≡ body (take k es) ++ replicate {A = ℕ} (24 * (m - k)) 0 = ap (λ b. body (take k es) ++ (replicate 24 0 ++ (b ++ z))) none ∙ ap (λ b. body (take k es) ++ b) zeros in
+    ap (write_over 0 (header m k)) (over_one h es k (replicate 24 0) z d refl refl (omega arith)) ∙ over_header m k (length es) _ ∙ ap (λ b. header m k ++ b) rest
+    ∙ ap (λ i. header m i ++ (body (take k es) ++ replicate (24 * (m - i)) 0)) (sym (length-take-le k es (omega arith)))
+
+-- bytes that are a strip with the entries es, n of them
 pub record Settled (m n : ℕ) (ys : List ℕ) (es : List IdEntry) : Type 0 where
   pub body_is : read_body n (drop 16 ys) ≡ es
   pub bytes : ys ≡ strip_bytes m es
   pub whole : ys ≡ strip_bytes m (read_body n (drop 16 ys))
+  pub distinct : Distinct (read_body n (drop 16 ys))
 
-settled : (m n : ℕ) (ys : List ℕ) (es : List IdEntry) → ys ≡ strip_bytes m es → length es ≡ n → Sounds es → Settled m n ys es
-settled m n ys es e l s =
-    let r = read_whole m n ys es e l s in
-    record { body_is = r; bytes = e; whole = e ∙ ap (strip_bytes m) (sym r) }
+settled : (m n : ℕ) (ys : List ℕ) (es : List IdEntry) → ys ≡ strip_bytes m es → length es ≡ n → All Sound es → Distinct es → Settled m n ys es
+settled m n ys es e l s ne =
+    let r = ap (λ y. read_body n (drop 16 y)) e ∙ ap (λ k. read_body k (body es ++ replicate (24 * (m - length es)) 0)) (sym l) ∙ read_body_of es _ s in
+    record { body_is = r; bytes = e; whole = e ∙ ap (strip_bytes m) (sym r); distinct = subst Distinct (sym r) ne }
 
-pub settled_grown : (m n : ℕ) (bs ys : List ℕ) (r : IdEntry) → bs ≡ strip_bytes m (read_body n (drop 16 bs)) → n < m → Sound r → ys ≡ write_over 0 (header m (n + 1)) (write_over (16 + 24 * n) (entry_bytes r) bs) → Settled m (n + 1) ys (read_body n (drop 16 bs) ++ r ∷ [])
-settled_grown m n bs ys r e lt s is =
-    let es = read_body n (drop 16 bs) in
-    let l = length_read_body n (drop 16 bs) in
-    settled m (n + 1) ys (es ++ r ∷ []) (grown m n bs ys es r e l lt is) (length-append es (r ∷ []) ∙ omega arith) (sounds_push es r (sounds_in m n bs e) s)
+module _ (s : Strip) where
+  -- an entry was written after the others
+  pub settled_grown : (r : IdEntry) (at : ℕ) (part bs h ys : List ℕ) → s.count < s.capacity → look_up (strip_entries s) r.0 ≡ None
+      → at ≡ 16 + 24 * s.count → part ≡ entry_bytes r → read_entry part ≡ r → bs ≡ write_over at part (bytes_of s) → h ≡ header s.capacity (s.count + 1) → ys ≡ write_over 0 h bs
+      → Settled s.capacity (s.count + 1) ys (body_of s ++ r ∷ [])
+  settled_grown r at part bs h ys lt q a e again f k g =
+      let m = s.capacity in
+      let n = s.count in
+      let es = body_of s in
+      let old = bytes_of s in
+      let l = length_read_body n (drop 16 old) in
+      let c = length_push es r in
+      let one : bs ≡ write_over (16 + 24 * n) (entry_bytes r) (strip_bytes m es) = f ∙ ap (λ i. write_over i part old) a ∙ ap (λ b. write_over (16 + 24 * n) b old) e ∙ ap (write_over (16 + 24 * n) (entry_bytes r)) s.whole in
+      let two : ys ≡ write_over 0 (header m (n + 1)) (write_over (16 + 24 * n) (entry_bytes r) (strip_bytes m es)) = g ∙ ap (λ h. write_over 0 h bs) k ∙ ap (write_over 0 (header m (n + 1))) one in
+      let is : ys ≡ strip_bytes m (es ++ r ∷ []) = two ∙ ap (λ n. write_over 0 (header m (n + 1)) (write_over (16 + 24 * n) (entry_bytes r) (strip_bytes m es))) (sym l) ∙ added m es r (omega arith) in
+      settled m (n + 1) ys (es ++ r ∷ []) is (omega arith) (All-push Sound es r (sounds_in m n old s.whole) (ap read_entry (sym e) ∙ again)) (distinct_push es r s.distinct (sym (look_arranged es r.0) ∙ q))
 
-pub settled_shrunk : (m n p : ℕ) (bs ys : List ℕ) → bs ≡ strip_bytes m (read_body n (drop 16 bs)) → p < n → n ≤ m → ys ≡ write_over 0 (header m (n - 1)) (write_over (16 + 24 * (n - 1)) (replicate 24 0) (write_over (16 + 24 * p) (take 24 (drop (16 + 24 * (n - 1)) bs)) bs)) → Settled m (n - 1) ys (filled (read_body n (drop 16 bs)) p)
-settled_shrunk m n p bs ys e lp le is =
-    let es = read_body n (drop 16 bs) in
-    let l = length_read_body n (drop 16 bs) in
-    settled m (n - 1) ys (filled es p) (shrunk m (n - 1) p bs ys es e (omega arith) (omega arith) (omega arith) is) (length_filled es p ∙ omega arith) (sounds_filled es p (sounds_in m n bs e))
-
--- how long the bytes of a strip-bytes with room are
-pub whole_length : (m n : ℕ) (bs : List ℕ) → n ≤ m → bs ≡ strip_bytes m (read_body n (drop 16 bs)) → length bs ≡ 16 + 24 * m
-whole_length m n bs le e = let l = length_read_body n (drop 16 bs) in ap length e ∙ strip_length m (read_body n (drop 16 bs)) (omega arith)
+  -- the last entry was moved over another
+  pub settled_shrunk : (p at gap : ℕ) (bs cs h ys : List ℕ) → p < s.count
+      → at ≡ 16 + 24 * (s.count - 1) → gap ≡ 16 + 24 * p → bs ≡ copy_within (bytes_of s) at (at + 24) gap → cs ≡ write_over at (replicate 24 0) bs → h ≡ header s.capacity (s.count - 1) → ys ≡ write_over 0 h cs
+      → Settled s.capacity (s.count - 1) ys (filled (body_of s) p)
+  settled_shrunk p at gap bs cs h ys lp a b e f j g =
+      let m = s.capacity in
+      let k = s.count - 1 in
+      let es = body_of s in
+      let old = bytes_of s in
+      let l = length_read_body s.count (drop 16 old) in
+      let w = s.within in
+      let long = length_bytes s in
+      let d : IdEntry = (0, Aborted) in
+      let ws = set es p (get_or es k d) in
+      let lw = length-set es p (get_or es k d) in
+      let one : bs ≡ strip_bytes m ws = e ∙ copied old at gap (omega arith) ∙ ap (λ i. write_over gap (take 24 (drop i old)) old) a ∙ ap (λ i. write_over i (take 24 (drop (16 + 24 * k) old)) old) b ∙ ap (λ o. write_over (16 + 24 * p) (take 24 (drop (16 + 24 * k) o)) o) s.whole ∙ moved m k p es d (omega arith) (omega arith) in
+      let two : cs ≡ write_over (16 + 24 * k) (replicate 24 0) (strip_bytes m ws) = f ∙ ap (λ i. write_over i (replicate 24 0) bs) a ∙ ap (write_over (16 + 24 * k) (replicate 24 0)) one in
+      let n : k ≡ length es - 1 = omega arith in
+      let is : ys ≡ strip_bytes m (filled es p) = g ∙ ap (λ h. write_over 0 h cs) j ∙ ap (write_over 0 (header m k)) two ∙ cleared m k ws d (omega arith) (omega arith) ∙ ap (λ i. strip_bytes m (take i (set es p (get_or es i d)))) n ∙ ap (strip_bytes m) (sym (filled_is es p d (omega arith))) in
+      settled m k ys (filled es p) is (length_filled es p ∙ omega arith) (sounds_filled es p (sounds_in m s.count old s.whole)) (distinct_filled es p (omega arith) s.distinct)

@@ -4,7 +4,8 @@ use Rattle.std.proofs.Common.{arith, sym, ◌∙◌}
 use Rattle.std.proofs.Math.Path.{refl, ap}
 use Rattle.std.proofs.lemmas.Bool.{ne_eqb}
 use Rattle.model.specs.Maps.{look_up, Rising}
-use Rattle.table.proofs.Maps.{enter_rises, look_enter, length_enter_new}
+use Rattle.model.proofs.Maps.{enter_rises}
+use Rattle.model.proofs.Entering.{look_enter, length_enter_new}
 use Rattle.strip.specs.Bodies.{arranged, Distinct}
 
 module _ {X : Type 0} where

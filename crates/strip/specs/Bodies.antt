@@ -1,5 +1,5 @@
 -- Entries in any order, no two of one id, and the map that they mean.
-use Rattle.std.specs.Prelude.{◌≡◌, ℕ, ◌+◌, ◌<◌, cond, List, [], ◌∷◌, length, get_or, take, Some, None, Option, ◌==◌, slice_index_or, slice_set}
+use Rattle.std.specs.Prelude.{◌≡◌, ℕ, ◌+◌, ◌<◌, cond, List, [], ◌∷◌, length, take, Some, None, Option, ◌==◌, slice_index_or, slice_set}
 use Rattle.model.specs.Maps.{enter}
 
 -- one place on
@@ -15,7 +15,7 @@ module _ {X : Type 0} where
 
   -- no two places have one id
   abbrev pub Distinct : List (ℕ × X) → Type 0
-  Distinct es = (i j : ℕ) (d : ℕ × X) → (i < j) × (j < length es) × ((get_or es i d).0 ≡ (get_or es j d).0) → ⊥
+  Distinct es = (i j : ℕ) (d : ℕ × X) → (i < j) × (j < length es) × ((slice_index_or es i d).0 ≡ (slice_index_or es j d).0) → ⊥
 
   -- the place of the id q
   abbrev pub place_of : List (ℕ × X) → ℕ → Option ℕ

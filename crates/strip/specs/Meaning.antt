@@ -5,8 +5,7 @@ use Rattle.model.specs.declared.refusal.Refusal.{Refusal}
 use Rattle.model.specs.declared.refusal.Refusal.TheVariants.{OutsideLimits}
 use Rattle.model.specs.Numbers.{from_1_to}
 use Rattle.model.specs.Maps.{Rising}
-use Rattle.commit_table.specs.declared.Placing.{Placing}
-use Rattle.commit_table.specs.declared.Placing.TheVariants.{Placed, Stands, Full}
+use Rattle.commit_table.specs.declared.NotPlaced.{NotPlaced}
 use Rattle.strip.specs.declared.strip.Strip.{Strip}
 use Rattle.strip.specs.Bodies.{arranged}
 use Rattle.strip.specs.Arranged.{arranged_rises, length_arranged}
@@ -18,7 +17,7 @@ capacity_for n = cond (nat_le 16 n && ((n - 16) % 24 == 0 && from_1_to 2000 ((n 
 
 -- every byte
 abbrev pub bytes_of : Strip → List ℕ
-bytes_of s = s.memory.bytes.now
+bytes_of s = s.bytes.now
 
 -- the entries in order of placing, as the bytes have them
 abbrev pub body_of : Strip → List IdEntry
@@ -38,30 +37,23 @@ strip_capacity s = s.capacity
 pub strip_ordered : (s : Strip) → Rising (strip_entries s)
 strip_ordered s = arranged_rises (body_of s)
 
-pub strip_within : (s : Strip) → length (strip_entries s) ≤ strip_capacity s
-strip_within s = let a = length_arranged (body_of s) s.distinct ∙ length_read_body s.count (drop 16 (bytes_of s)) in let b = s.fit.0 in omega arith
+pub length_entries : (s : Strip) → length (strip_entries s) ≡ s.count
+length_entries s = length_arranged (body_of s) s.distinct ∙ length_read_body s.count (drop 16 (bytes_of s))
 
--- the bytes under a strip that is made over bytes: an empty strip, or as they were
+pub strip_within : (s : Strip) → length (strip_entries s) ≤ strip_capacity s
+strip_within s = let a = length_entries s in let b = s.within in omega arith
+
+-- bytes that were laid out for a strip: an empty strip, or as they were
 abbrev pub made_bytes : List ℕ → Result ℕ Refusal → List ℕ
 made_bytes bs (Ok m) = strip_bytes m []
 made_bytes bs (Err e) = bs
 
-abbrev pub made_capacity : Result ℕ Refusal → ℕ
-made_capacity (Ok m) = m
-made_capacity (Err e) = 0
-
 -- the body after placing e, by the answer: a new entry stands last
-abbrev pub place_body : Placing → IdEntry → List IdEntry → List IdEntry
-place_body Placed e es = es ++ e ∷ []
-place_body (Stands o) e es = es
-place_body Full e es = es
+abbrev pub place_body : Result Unit NotPlaced → IdEntry → List IdEntry → List IdEntry
+place_body (Ok u) e es = es ++ e ∷ []
+place_body (Err n) e es = es
 
 -- every byte after a call on a strip with room for m, by whether it changed the strip: the strip of the new body, or the bytes bs that were there
 abbrev pub bytes_if : Bool → ℕ → List IdEntry → List ℕ → List ℕ
 bytes_if true m es bs = strip_bytes m es
 bytes_if false m es bs = bs
-
-abbrev pub was_placed : Placing → Bool
-was_placed Placed = true
-was_placed (Stands o) = false
-was_placed Full = false

@@ -1,111 +1,109 @@
 //! Entries and headers as bytes.
-ghost use Rattle.std.specs.Prelude.{◌≡◌, ◌+◌, ◌/◌, ◌<◌, ◌≤◌, length, drop, replicate, IfSome};
-ghost use Rattle.model.specs.Maps.{look_up};
+ghost use Rattle.std.specs.Prelude.{◌≡◌, ◌+◌, ◌*◌, ◌/◌, ◌<◌, ◌≤◌, length, IfSome};
 ghost use Rattle.strip.specs.Bodies.{place_of};
-ghost use Rattle.strip.specs.Layout.{packed, entry_bytes, header, read_8, read_entry, read_body, write_over};
+ghost use Rattle.strip.specs.Layout.{entry_bytes, header, read_8, read_entry, read_body, write_over};
 
 use model::CommitEntry;
 
-/// The number in the first eight bytes.
-fn number_in(b: &[u8]) -> u64
-    requires { 8 ≤ length b.now }
-    ensures { result ≡ read_8 b.now }
+/// How many bytes a header has.
+pub const HEADER: usize = 16;
+
+/// How many bytes an entry has.
+pub const ENTRY: usize = 24;
+
+/// The most entries that a strip has room for.
+pub(crate) const MOST_ENTRIES: usize = 2000;
+
+/// Where in an entry its kind stands, after the id.
+const KIND_AT: usize = 8;
+
+/// Where in an entry its number stands, after the kind and seven zeros.
+const NUMBER_AT: usize = 16;
+
+/// The kind of an entry that committed.
+const COMMITTED: u8 = 1;
+
+/// The kind of an aborted one.
+const ABORTED: u8 = 2;
+
+/// Where the entry at a place begins.
+pub(crate) fn offset_of(place: usize) -> usize
+    requires { place ≤ 2000 }
+    ensures { result ≡ 16 + 24 * place }
 {
-    u64::from_le_bytes([b[0], b[1], b[2], b[3], b[4], b[5], b[6], b[7]])
+    HEADER + ENTRY * place
+}
+
+/// The number in the first eight bytes.
+fn number_in(bytes: &[u8]) -> u64
+    requires { 8 ≤ length bytes.now }
+    ensures { result ≡ read_8 bytes.now }
+{
+    u64::from_le_bytes(*bytes.first_chunk().unwrap())
 }
 
 /// The entry in the first 24 bytes.
-fn entry_in(b: &[u8]) -> CommitEntry
-    requires { 24 ≤ length b.now }
-    ensures { result ≡ (read_entry b.now).1 }
+pub(crate) fn entry_in(bytes: &[u8]) -> CommitEntry
+    requires { 24 ≤ length bytes.now }
+    ensures { result ≡ (read_entry bytes.now).1 }
 {
-    if b[8] == 1 {
-        CommitEntry::Committed(number_in(&b[16..]))
+    if bytes[KIND_AT] == COMMITTED {
+        CommitEntry::Committed(number_in(&bytes[NUMBER_AT..]))
     } else {
         CommitEntry::Aborted
     }
 }
 
-/// The entry at the id, among the entries of the body.
-pub(crate) fn look_up_in(body: &[u8], id: u64) -> Option<CommitEntry>
-    ensures { look_up (read_body (length body.now / 24) body.now) id ≡ result }
-{
-    if body.len() < 24 {
-        return None;
-    }
-    if number_in(body) == id {
-        return Some(entry_in(body));
-    }
-    look_up_in(&body[24..], id)
-}
-
-/// The place of the id, among the entries of the body.
+/// The place of the id, among the entries of the body: as many entries stand before the rest that begins with it.
 pub(crate) fn place_in(body: &[u8], id: u64) -> Option<usize>
     ensures place { place_of (read_body (length body.now / 24) body.now) id ≡ result }
     ensures within { IfSome result (λ p. p < length body.now / 24) }
 {
-    if body.len() < 24 {
-        return None;
+    let mut rest = body;
+    while let Some((first, after)) = rest.split_first_chunk::<ENTRY>() {
+        if number_in(first) == id {
+            return Some((body.len() - rest.len()) / ENTRY);
+        }
+        rest = after;
     }
-    if number_in(body) == id {
-        return Some(0);
-    }
-    match place_in(&body[24..], id) {
-        Some(p) => Some(p + 1),
-        None => None,
-    }
+    None
 }
 
-/// An id, a kind, seven zeros and a number.
-fn packed_bytes(id: u64, kind: u8, number: u64) -> [u8; 24]
-    ensures bytes { result ≡ packed id kind number }
-    ensures id { read_8 result ≡ id }
-    ensures number { read_8 (drop 16 result) ≡ number }
-{
-    let i = id.to_le_bytes();
-    let n = number.to_le_bytes();
-    [
-        i[0], i[1], i[2], i[3], i[4], i[5], i[6], i[7], kind, 0, 0, 0, 0, 0, 0, 0, n[0], n[1],
-        n[2], n[3], n[4], n[5], n[6], n[7],
-    ]
-}
-
-/// An entry in 24 bytes, from which it can be read again.
-pub(crate) fn bytes_of_entry(id: u64, entry: CommitEntry) -> [u8; 24]
+/// An id, a kind, seven zeros and a number, from which the entry can be read again.
+pub(crate) fn bytes_of_entry(id: u64, entry: CommitEntry) -> [u8; ENTRY]
     ensures bytes { result ≡ entry_bytes (id, entry) }
     ensures sound { read_entry result ≡ (id, entry) }
 {
-    match entry {
-        CommitEntry::Committed(n) => packed_bytes(id, 1, n),
-        CommitEntry::Aborted => packed_bytes(id, 2, 0),
-    }
+    let (kind, number) = match entry {
+        CommitEntry::Committed(number) => (COMMITTED, number),
+        CommitEntry::Aborted => (ABORTED, 0),
+    };
+    let mut bytes = [0; ENTRY];
+    bytes[..KIND_AT].copy_from_slice(&id.to_le_bytes());
+    bytes[KIND_AT] = kind;
+    bytes[NUMBER_AT..].copy_from_slice(&number.to_le_bytes());
+    bytes
 }
 
-/// The header of n entries with room for m.
-pub(crate) fn header_bytes(m: usize, n: usize) -> [u8; 16]
-    requires { (n ≤ m) × (m ≤ 2000) }
-    ensures { result ≡ header m n }
+/// The header of so many entries with room for so many.
+pub(crate) fn header_bytes(capacity: usize, count: usize) -> [u8; HEADER]
+    requires within { count ≤ capacity }
+    requires limit { capacity ≤ 2000 }
+    ensures { result ≡ header capacity count }
 {
-    let c = (n as u16).to_le_bytes();
-    let p = (m as u16).to_le_bytes();
-    let s = 16u32.to_le_bytes();
-    let f = (16 + 24 * n as u32).to_le_bytes();
-    [
-        c[0], c[1], p[0], p[1], s[0], s[1], s[2], s[3], f[0], f[1], f[2], f[3], 0, 0, 0, 0,
-    ]
+    let mut bytes = [0; HEADER];
+    bytes[..2].copy_from_slice(&(count as u16).to_le_bytes());
+    bytes[2..4].copy_from_slice(&(capacity as u16).to_le_bytes());
+    bytes[4..8].copy_from_slice(&(HEADER as u32).to_le_bytes());
+    bytes[8..12].copy_from_slice(&(offset_of(count) as u32).to_le_bytes());
+    bytes
 }
 
 /// Writes a part over the bytes, from an offset on.
-pub(crate) fn write_at(b: &mut [u8], at: usize, part: &[u8])
-    requires { at + length part.now ≤ length b.old }
-    ensures { b.new ≡ write_over at part.now b.old }
+pub(crate) fn write_at(bytes: &mut [u8], at: usize, part: &[u8])
+    requires { at + length part.now ≤ length bytes.old }
+    ensures written { bytes.new ≡ write_over at part.now bytes.old }
+    ensures len { length bytes.new ≡ length bytes.old }
 {
-    b[at..at + part.len()].copy_from_slice(part);
-}
-
-/// Writes zero over each byte.
-pub(crate) fn wipe(b: &mut [u8])
-    ensures { b.new ≡ replicate (length b.old) 0 }
-{
-    b.fill(0);
+    bytes[at..at + part.len()].copy_from_slice(part);
 }

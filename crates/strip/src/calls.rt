@@ -1,74 +1,50 @@
 //! The strip as a commit table. Each call says every byte after it.
-ghost use Rattle.std.specs.Prelude.{◌≡◌, ◌+◌, ◌-◌, ◌*◌, ◌<◌, ◌≤◌, length, take, drop, replicate};
+ghost use Rattle.std.specs.Prelude.{◌≡◌, ◌*◌, ◌<◌, length, slice_index_or, is_ok, IfSome};
 ghost use Rattle.model.specs.Maps.{is_there, look_up, remove};
 ghost use Rattle.commit_table.specs.Placing.{placing, place_in};
 ghost use Rattle.strip.specs.Bodies.{place_of, drop_id};
-ghost use Rattle.strip.specs.Layout.{entry_bytes, read_entry, header, write_over};
-ghost use Rattle.strip.specs.Meaning.{bytes_of, body_of, strip_entries, strip_capacity, strip_ordered, strip_within, place_body, bytes_if, was_placed};
+ghost use Rattle.strip.specs.Layout.{IdEntry, body};
+ghost use Rattle.strip.specs.Meaning.{bytes_of, body_of, strip_entries, strip_capacity, strip_ordered, strip_within, place_body, bytes_if};
 
-use crate::bytes::{bytes_of_entry, header_bytes, look_up_in, place_in, write_at};
-use crate::strip::{Strip, StripMemory};
-use commit_table::{CommitTable, Placing};
+use crate::bytes::{
+    ENTRY, HEADER, bytes_of_entry, entry_in, header_bytes, offset_of, place_in, write_at,
+};
+use crate::strip::Strip;
+use commit_table::{CommitTable, NotPlaced};
 use model::CommitEntry;
-
-/// Adds an entry after n others.
-fn add_entry(t: &mut StripMemory, m: usize, n: usize, id: u64, entry: CommitEntry)
-    requires { (n < m) × ((m ≤ 2000) × (length t.old.bytes.now ≡ 16 + 24 * m)) }
-    ensures bytes { t.new.bytes.now ≡ write_over 0 (header m (n + 1)) (write_over (16 + 24 * n) (entry_bytes (id, entry)) t.old.bytes.now) }
-    ensures sound { read_entry (entry_bytes (id, entry)) ≡ (id, entry) }
-{
-    write_at(t.bytes, 16 + 24 * n, &bytes_of_entry(id, entry));
-    write_at(t.bytes, 0, &header_bytes(m, n + 1));
-}
-
-/// The 24 bytes from an offset on.
-fn entry_at(t: &StripMemory, at: usize) -> [u8; 24]
-    requires { at + 24 ≤ length t.now.bytes.now }
-    ensures { result ≡ take 24 (drop at t.now.bytes.now) }
-{
-    let mut entry = [0u8; 24];
-    entry.copy_from_slice(&t.bytes[at..at + 24]);
-    entry
-}
-
-/// Moves the last of n entries over the entry at p, and zeroes its old place.
-fn fill_gap(t: &mut StripMemory, m: usize, n: usize, p: usize)
-    requires { (p < n) × ((n ≤ m) × ((m ≤ 2000) × (length t.old.bytes.now ≡ 16 + 24 * m))) }
-    ensures { t.new.bytes.now ≡ write_over 0 (header m (n - 1)) (write_over (16 + 24 * (n - 1)) (replicate 24 0) (write_over (16 + 24 * p) (take 24 (drop (16 + 24 * (n - 1)) t.old.bytes.now)) t.old.bytes.now)) }
-{
-    let a = 16 + 24 * (n - 1);
-    let last = entry_at(t, a);
-    write_at(t.bytes, 16 + 24 * p, &last);
-    write_at(t.bytes, a, &[0; 24]);
-    write_at(t.bytes, 0, &header_bytes(m, n - 1));
-}
 
 impl Strip<'_> {
     /// Every byte, as it stands.
     pub fn bytes(&self) -> &[u8]
         ensures { result.now ≡ bytes_of self.now }
     {
-        self.memory.bytes
+        self.bytes
+    }
+
+    /// The bytes of the entries.
+    #[tactic(auto, using(crate::proofs::Strips::length_bytes))]
+    fn body(&self) -> &[u8]
+        ensures entries { result.now ≡ body (body_of self.now) }
+        ensures len { length result.now ≡ 24 * self.now.count }
+    {
+        &self.bytes[HEADER..offset_of(self.count)]
     }
 
     /// The place of the id, in order of placing.
     fn find(&self, id: u64) -> Option<usize>
-        ensures { place_of (body_of self.now) id ≡ result }
+        ensures place { place_of (body_of self.now) id ≡ result }
+        ensures within { IfSome result (λ p. p < self.now.count) }
     {
-        if self.count == 0 {
-            return None;
-        }
-        place_in(&self.memory.bytes[16..16 + 24 * self.count], id)
+        place_in(self.body(), id)
     }
 
-    /// The entry at the id.
-    fn look(&self, id: u64) -> Option<CommitEntry>
-        ensures { look_up (body_of self.now) id ≡ result }
+    /// The entry at a place.
+    #[tactic(auto, using(crate::proofs::Strips::length_bytes))]
+    fn entry_at(&self, place: usize) -> CommitEntry
+        requires { place < self.now.count }
+        ensures { (d : IdEntry) → result ≡ (slice_index_or (body_of self.now) place d).1 }
     {
-        if self.count == 0 {
-            return None;
-        }
-        look_up_in(&self.memory.bytes[16..16 + 24 * self.count], id)
+        entry_in(&self.bytes[offset_of(place)..])
     }
 }
 
@@ -85,35 +61,39 @@ impl<'a> CommitTable for Strip<'a> {
         self.capacity
     }
 
+    #[tactic(auto, using(crate::specs::Meaning::length_entries))]
     fn count(&self) -> usize {
         self.count // as in the header
     }
 
     fn look_up(&self, id: u64) -> Option<CommitEntry> {
-        self.look(id)
+        let place = self.find(id)?;
+        Some(self.entry_at(place))
     }
 
     /// A new entry stands last in the body.
-    fn place(&mut self, id: u64, entry: CommitEntry) -> Placing
+    fn place(&mut self, id: u64, entry: CommitEntry) -> Result<(), NotPlaced>
         ensures placed { placing result (strip_entries self.new) ≡ place_in (strip_capacity self.old) id entry (strip_entries self.old) }
         ensures kept { strip_capacity self.new ≡ strip_capacity self.old }
         ensures body { body_of self.new ≡ place_body result (id, entry) (body_of self.old) }
-        ensures bytes { bytes_of self.new ≡ bytes_if (was_placed result) (strip_capacity self.old) (place_body result (id, entry) (body_of self.old)) (bytes_of self.old) }
+        ensures bytes { bytes_of self.new ≡ bytes_if (is_ok result) (strip_capacity self.old) (place_body result (id, entry) (body_of self.old)) (bytes_of self.old) }
     {
-        if let Some(standing) = self.look(id) {
-            return Placing::Stands(standing);
+        if let Some(standing) = self.look_up(id) {
+            return Err(NotPlaced::Stands(standing));
         }
-        let n = self.count;
-        let m = self.capacity;
-        if n == m {
-            return Placing::Full;
+        if self.count == self.capacity {
+            return Err(NotPlaced::Full);
         }
-        add_entry(&mut self.memory, m, n, id, entry);
-        self.count = n + 1;
-        Placing::Placed
+        let (capacity, count) = (self.capacity, self.count);
+        let bytes = &mut *self.bytes;
+        write_at(bytes, offset_of(count), &bytes_of_entry(id, entry));
+        write_at(bytes, 0, &header_bytes(capacity, count + 1));
+        self.count = count + 1;
+        Ok(())
     }
 
     /// The last entry of the body moves into the gap, and its old place is zeroed.
+    #[tactic(auto, using(crate::proofs::Strips::length_bytes))]
     fn drop_entry(&mut self, id: u64) -> bool
         ensures answer { result ≡ is_there (look_up (strip_entries self.old) id) }
         ensures dropped { strip_entries self.new ≡ remove id (strip_entries self.old) }
@@ -121,13 +101,16 @@ impl<'a> CommitTable for Strip<'a> {
         ensures body { body_of self.new ≡ drop_id id (body_of self.old) }
         ensures bytes { bytes_of self.new ≡ bytes_if result (strip_capacity self.old) (drop_id id (body_of self.old)) (bytes_of self.old) }
     {
-        let Some(p) = self.find(id) else {
+        let Some(place) = self.find(id) else {
             return false;
         };
-        let n = self.count;
-        let m = self.capacity;
-        fill_gap(&mut self.memory, m, n, p);
-        self.count = n - 1;
+        let (capacity, left) = (self.capacity, self.count - 1);
+        let last = offset_of(left);
+        let bytes = &mut *self.bytes;
+        bytes.copy_within(last..last + ENTRY, offset_of(place));
+        write_at(bytes, last, &[0; ENTRY]);
+        write_at(bytes, 0, &header_bytes(capacity, left));
+        self.count = left;
         true
     }
 }

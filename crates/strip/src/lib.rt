@@ -7,4 +7,5 @@ pub mod laws;
 pub mod making;
 pub mod strip;
 
-pub use strip::{Strip, StripMemory};
+pub use bytes::{ENTRY, HEADER};
+pub use strip::Strip;

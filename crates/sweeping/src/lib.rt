@@ -9,24 +9,20 @@ ghost use Rattle.model.specs.Step.{step};
 ghost use Rattle.engine.specs.Meaning.{database};
 
 use commit_table::CommitTable;
-use engine::Engine;
-use model::Row;
-use table::Table;
+use engine::{Engine, Tables};
 use version_store::VersionStore;
 use walks::sweeping::sweep as sweep_versions;
 
 /// Stamps or drops the key's pending records, then drops the stamped ones numbered below the floor except the greatest of these. It answers how many it dropped.
 pub fn sweep<S: VersionStore, C: CommitTable>(
     engine: &mut Engine,
-    rows: &Table<Row>,
-    conflicts0: &Table<u64>,
-    conflicts1: &Table<u64>,
+    tables: &Tables,
     store: &mut S,
     commits: &C,
     key: u64,
 ) -> u64
-    ensures { (database engine.new rows.now conflicts0.now conflicts1.now (S.VersionStore.records store.new) (S.VersionStore.capacity store.new) (C.CommitTable.entries commits.now) (C.CommitTable.capacity commits.now), Number result)
-        ≡ step (database engine.old rows.now conflicts0.now conflicts1.now (S.VersionStore.records store.old) (S.VersionStore.capacity store.old) (C.CommitTable.entries commits.now) (C.CommitTable.capacity commits.now)) (Sweep key) }
+    ensures { (database engine.new tables.now S.VersionStore store.new C.CommitTable commits.now, Number result)
+        ≡ step (database engine.old tables.now S.VersionStore store.old C.CommitTable commits.now) (Sweep key) }
 {
     sweep_versions(engine.floor, &mut engine.classes, store, commits, key)
 }

@@ -1,6 +1,3 @@
-pub mod Searches
-pub mod Shifts
-pub mod Maps
-pub mod Pairs
+pub mod Edits
+pub mod Places
 pub mod Outcomes
-pub mod Added

@@ -1,62 +1,51 @@
 -- What a table means, a map from tags to values as a list in ascending order, and what its calls answer and leave.
-use Rattle.std.specs.Prelude.{ℕ, zero, suc, ◌-◌, cond, List, [], ◌∷◌, length, take, drop, Some, None, Option, nat_lt}
+use Rattle.std.specs.Prelude.{ℕ, ◌-◌, ◌||◌, cond, List, length, map, take, drop, Ok, Err, Some, None, Option, Result, nat_lt}
+use Rattle.model.specs.declared.words.Full.{Full}
 use Rattle.model.specs.Maps.{is_there, look_up, enter}
-use Rattle.table.specs.declared.table.Entry.{Entry}
 use Rattle.table.specs.declared.table.Table.{Table}
-use Rattle.table.specs.declared.table.Inserted.{Inserted}
-use Rattle.table.specs.declared.table.Inserted.TheVariants.{Added, Replaced, Full}
-
--- the element at place i, if there is one
-abbrev pub at : {X : Type 0} → List X → ℕ → Option X
-at [] i = None
-at (x ∷ xs) zero = Some x
-at (x ∷ xs) (suc i) = at xs i
+use Rattle.table.specs.declared.tagged.Tagged.{Ghosts}
 
 -- the last element alone, or nothing
 abbrev pub last : {X : Type 0} → List X → List X
 last xs = drop (length xs - 1) xs
 
-module _ {V : Type 0} where
+module _ {E V : Type 0} where
   -- an entry as a pair of tag and value
-  abbrev pub pair_of : Entry V → ℕ × V
-  pair_of e = (e.tag, e.value)
+  abbrev pub pair_of : Ghosts E V → E → ℕ × V
+  pair_of g e = (g.tag e, g.value e)
 
-  abbrev pub pairs : List (Entry V) → List (ℕ × V)
-  pairs [] = []
-  pairs (e ∷ es) = pair_of e ∷ pairs es
+  abbrev pub pairs : Ghosts E V → List E → List (ℕ × V)
+  pairs g es = map (pair_of g) es
 
-  abbrev pub pair_in : Option (Entry V) → Option (ℕ × V)
-  pair_in None = None
-  pair_in (Some e) = Some (pair_of e)
-
+module _ {E V : Type 0} {g : Ghosts E V} where
   -- what lies in the places that are used
-  abbrev pub held : Table V → List (Entry V)
-  held t = take t.len t.slots.cells.now
+  abbrev pub held : Table E V g → List E
+  held t = take t.len t.cells.now
 
   -- the entries that a table means, in order
-  abbrev pub entries : Table V → List (ℕ × V)
-  entries t = pairs (held t)
+  abbrev pub entries : Table E V g → List (ℕ × V)
+  entries t = pairs g (held t)
 
   -- what lies in the places after them: the lent memory is held t ++ spare t
-  abbrev pub spare : Table V → List (Entry V)
-  spare t = drop t.len t.slots.cells.now
+  abbrev pub spare : Table E V g → List E
+  spare t = drop t.len t.cells.now
 
   -- how many entries there is room for
-  abbrev pub capacity : Table V → ℕ
-  capacity t = length t.slots.cells.now
+  abbrev pub capacity : Table E V g → ℕ
+  capacity t = length t.cells.now
 
-  -- what inserting at the tag k answers, among the entries l with room for n
-  abbrev pub insert_answer : ℕ → ℕ → List (ℕ × V) → Inserted
-  insert_answer n k l = cond (is_there (look_up l k)) Replaced (cond (nat_lt (length l) n) Added Full)
+module _ {V : Type 0} where
+  -- what inserting at the tag k answers, among the entries l with room for n: what stood there, unless k is new and there is no room
+  abbrev pub insert_answer : ℕ → ℕ → List (ℕ × V) → Result (Option V) Full
+  insert_answer n k l = cond (is_there (look_up l k) || nat_lt (length l) n) (Ok (look_up l k)) (Err (record {}))
 
   -- the entries that are left with each answer
-  abbrev pub insert_entries : Inserted → Entry V → List (ℕ × V) → List (ℕ × V)
-  insert_entries Added e l = enter e.tag e.value l
-  insert_entries Replaced e l = enter e.tag e.value l
-  insert_entries Full e l = l
+  abbrev pub insert_entries : Result (Option V) Full → ℕ → V → List (ℕ × V) → List (ℕ × V)
+  insert_entries (Ok o) k v l = enter k v l
+  insert_entries (Err f) k v l = l
 
   -- and the spare places: one fewer where an entry was added
-  abbrev pub insert_spare : Inserted → List (Entry V) → List (Entry V)
-  insert_spare Added es = drop 1 es
-  insert_spare Replaced es = es
-  insert_spare Full es = es
+  abbrev pub insert_spare : {X : Type 0} → Result (Option V) Full → List X → List X
+  insert_spare (Ok None) es = drop 1 es
+  insert_spare (Ok (Some v)) es = es
+  insert_spare (Err f) es = es

@@ -1,95 +1,92 @@
-//! The sheet: a table of commit entries, 1 to 2,000 places, as a commit table. It stands beside the table since an impl must stand with its trait or its type.
-ghost use Rattle.std.specs.Prelude.{◌≡◌, [], ◌++◌, length, IfOk, if◌then◌else◌};
-ghost use Rattle.model.specs.Maps.{is_there, look_up, remove};
-ghost use Rattle.commit_table.specs.Placing.{placing, place_in};
-ghost use Rattle.table.specs.Meaning.{held, entries, spare, capacity, last};
-ghost use Rattle.table.specs.Sheets.{outcome, memory_answer, place_spare};
-ghost use Rattle.table.specs.Tables.{entries_rising, entries_within};
-
-use crate::table::{Entry, Table};
-use commit_table::{CommitTable, Placing};
+//! The sheet: a commit table with 1 to 2,000 places, as a table of commit entries over lent memory.
+use crate::table::Table;
+use crate::tagged::Entry;
+use commit_table::{CommitTable, NotPlaced};
 use model::{CommitEntry, Refusal};
-
-pub type Sheet<'a> = Table<'a, CommitEntry>;
 
 const MOST_PLACES: usize = 2000;
 
-/// Memory that was found fit for a sheet.
+/// A commit entry under the id of its transaction.
+pub type SheetEntry = Entry<CommitEntry>;
+
+/// A table of commit entries as a commit table.
 #[derive(Drop)]
-pub struct SheetMemory<'a> {
-    cells: &'a mut [Entry<CommitEntry>],
+pub struct Sheet<'a> {
+    pub table: Table<'a, SheetEntry>,
 }
 
-impl<'a> SheetMemory<'a> {
-    /// Memory for 1 to 2,000 entries, left as it is; any other is refused.
-    pub fn check(cells: &'a mut [Entry<CommitEntry>]) -> Result<SheetMemory<'a>, Refusal>
+impl<'a> Sheet<'a> {
+    ghost use Rattle.std.specs.Prelude.{◌≡◌, [], length, IfOk};
+    ghost use Rattle.table.specs.Meaning.{entries, spare, capacity};
+    ghost use Rattle.table.specs.Sheets.{outcome, memory_answer};
+
+    /// An empty sheet over memory for 1 to 2,000 entries, which it leaves as it is; any other is refused.
+    pub fn over(cells: &'a mut [SheetEntry]) -> Result<Sheet<'a>, Refusal>
         ensures answer { outcome result ≡ memory_answer (length cells.old) }
-        ensures same { IfOk result (λ m. m.cells.now ≡ cells.old) }
+        ensures empty { IfOk result (λ s. entries s.table ≡ []) }
+        ensures rest { IfOk result (λ s. spare s.table ≡ cells.old) }
+        ensures places { IfOk result (λ s. capacity s.table ≡ length cells.old) }
     {
-        if cells.len() < 1 || cells.len() > MOST_PLACES {
+        if !(1..=MOST_PLACES).contains(&cells.len()) {
             return Err(Refusal::OutsideLimits);
         }
-        Ok(SheetMemory { cells })
-    }
-
-    /// An empty sheet over the memory, which keeps its contents.
-    pub fn sheet(self) -> Sheet<'a>
-        ensures empty { entries result ≡ [] }
-        ensures rest { spare result ≡ self.entry.cells.now }
-        ensures places { capacity result ≡ length self.entry.cells.now }
-    {
-        let SheetMemory { cells } = self;
-        Table::over(cells)
+        let table = Table::over(cells);
+        Ok(Sheet { table })
     }
 }
 
-impl<'a> CommitTable for Table<'a, CommitEntry> {
-    ghost entries = { entries };
+impl CommitTable for Sheet<'_> {
+    ghost use Rattle.std.specs.Prelude.{◌≡◌, ◌++◌, if◌then◌else◌};
+    ghost use Rattle.model.specs.Maps.{is_there, look_up, remove};
+    ghost use Rattle.commit_table.specs.Placing.{placing, place_in};
+    ghost use Rattle.table.specs.Meaning.{held, entries, spare, capacity, last};
+    ghost use Rattle.table.specs.Sheets.{place_spare};
+    ghost use Rattle.table.specs.Tables.{entries_rising, entries_within};
 
-    ghost capacity = { capacity };
+    ghost entries = { λ s. entries s.table };
 
-    ghost ordered = { entries_rising };
+    ghost capacity = { λ s. capacity s.table };
 
-    ghost within = { entries_within };
+    ghost ordered = { λ s. entries_rising s.table };
+
+    ghost within = { λ s. entries_within s.table };
 
     fn capacity(&self) -> usize {
-        self.capacity()
+        self.table.capacity()
     }
 
     fn count(&self) -> usize {
-        self.len()
+        self.table.len()
     }
 
     fn look_up(&self, id: u64) -> Option<CommitEntry> {
-        self.look_up(id)
+        self.table.look_up(id)
     }
 
     /// The spare places are one fewer where the entry was placed, else the same.
-    fn place(&mut self, id: u64, entry: CommitEntry) -> Placing
-        ensures placed { placing result (entries self.new) ≡ place_in (capacity self.old) id entry (entries self.old) }
-        ensures kept { capacity self.new ≡ capacity self.old }
-        ensures rest { spare self.new ≡ place_spare result (spare self.old) }
+    fn place(&mut self, id: u64, entry: CommitEntry) -> Result<(), NotPlaced>
+        ensures placed { placing result (entries self.new.table) ≡ place_in (capacity self.old.table) id entry (entries self.old.table) }
+        ensures kept { capacity self.new.table ≡ capacity self.old.table }
+        ensures rest { spare self.new.table ≡ place_spare result (spare self.old.table) }
     {
-        if let Some(standing) = self.look_up(id) {
-            return Placing::Stands(standing);
+        if let Some(standing) = self.table.look_up(id) {
+            return Err(NotPlaced::Stands(standing));
         }
-        if self.len() == self.capacity() {
-            return Placing::Full;
-        }
-        let _ = self.insert(Entry {
+        self.table.insert(Entry {
             tag: id,
             value: entry,
-        });
-        Placing::Placed
+        })?;
+        Ok(())
     }
 
     /// The last entry's old place, now spare, keeps its contents.
     fn drop_entry(&mut self, id: u64) -> bool
-        ensures answer { result ≡ is_there (look_up (entries self.old) id) }
-        ensures dropped { entries self.new ≡ remove id (entries self.old) }
-        ensures kept { capacity self.new ≡ capacity self.old }
-        ensures rest { spare self.new ≡ (if result then last (held self.old) ++ spare self.old else spare self.old) }
+        ensures answer { result ≡ is_there (look_up (entries self.old.table) id) }
+        ensures dropped { entries self.new.table ≡ remove id (entries self.old.table) }
+        ensures kept { capacity self.new.table ≡ capacity self.old.table }
+        ensures rest { spare self.new.table
+            ≡ (if result then last (held self.old.table) ++ spare self.old.table else spare self.old.table) }
     {
-        self.remove(id)
+        self.table.remove(id)
     }
 }

@@ -1,6 +1,7 @@
 -- A manager's part of a validation is that of the reference step.
-use Rattle.std.proofs.Common.{◌≡◌, ℕ, ◌+◌, ◌*◌, ◌/◌, ◌≤◌, Bool, true, false, cond, eqb, ltb, leb, List, Some, None, Ok, Err, Option, Result, sym, refl, ap, ◌∙◌, ⊎_elim, arith}
+use Rattle.std.proofs.Common.{◌≡◌, ℕ, ◌+◌, ◌*◌, ◌/◌, ◌≤◌, Bool, true, false, cond, ltb, leb, List, Some, None, Ok, Err, Option, Result, sym, refl, ap, ◌∙◌, arith}
 use Rattle.std.proofs.lemmas.Bool.{ne_eqb}
+use Rattle.std.proofs.lemmas.Bool.Decides.{nat_tests}
 use Rattle.model.specs.declared.words.Phase.TheVariants.{Validated}
 use Rattle.model.specs.declared.refusal.Refusal.{Refusal}
 use Rattle.model.specs.declared.refusal.Refusal.TheVariants.{StepAhead, BelowLow, ConflictAtManager}
@@ -15,7 +16,8 @@ use Rattle.model.specs.Managing.{step_at}
 use Rattle.model.specs.Validating.{validated, validate_seat}
 use Rattle.manager.specs.Meaning.{Numbers, seated, seats, manager_at, with_low, advanced, stepping, step_of}
 use Rattle.manager.specs.Validation.{Validating, validating, entered, unless_conflict, validate_of}
-use Rattle.manager.proofs.Seats.{zero_or_one, entered0, entered1}
+use Rattle.manager.specs.Conflicts.{Conflicts, with_entries}
+use Rattle.manager.proofs.Seats.{enter_seats}
 use Rattle.manager.proofs.Taking.{outcome, step_is, step_ok, step_err, at_advanced, Advanced}
 
 -- denied: nothing changed
@@ -116,16 +118,6 @@ module _ {V : Type 0} (s : State V) (id q : ℕ) (ks : List ℕ) (k : ℕ) (p : 
     accepted c e = rw open_ways (go_accepted c _ _ _ (sym (ap (λ (v : Validating). v.answer) open_ways) ∙ e))
 
 -- the seats after an accepted validation
-pub seats_after : (q cell end low : ℕ) (p p' : Numbers) (a b x : List (ℕ × ℕ)) → q ≤ 1 → (manager_at q p).taken ≡ true → p' ≡ with_low q low (advanced q cell end p) →
-    seats p' (cond (eqb q 0) x a) (cond (eqb q 0) b x) ≡ enter q (seat ((manager_at q p).clock + 1) end low x) (seats p a b)
-seats_after q cell end low p p' a b x l t m = ⊎_elim at0 at1 (zero_or_one q l)
-  where
-    at0 : q ≡ 0 → seats p' (cond (eqb q 0) x a) (cond (eqb q 0) b x) ≡ enter q (seat ((manager_at q p).clock + 1) end low x) (seats p a b)
-    at0 z =
-        let u : p.seat0.taken ≡ true = rw z at t in
-        rw (m, z) (rw u (entered0 0 true p.seat1.taken (seated p.seat0 a) (seated p.seat1 b) _ _ refl refl))
-
-    at1 : q ≡ 1 → seats p' (cond (eqb q 0) x a) (cond (eqb q 0) b x) ≡ enter q (seat ((manager_at q p).clock + 1) end low x) (seats p a b)
-    at1 z =
-        let u : p.seat1.taken ≡ true = rw z at t in
-        rw (m, z) (rw u (entered1 1 p.seat0.taken true (seated p.seat0 a) (seated p.seat1 b) _ _ refl refl))
+pub seats_after : (q cell end low : ℕ) (p p' : Numbers) (c : Conflicts) (x : List (ℕ × ℕ)) → q ≤ 1 → p' ≡ with_low q low (advanced q cell end p) →
+    seats p' (with_entries q x c) ≡ enter q (seat ((manager_at q p).clock + 1) end low x) (seats p c)
+seats_after q cell end low p p' c x l m = enter_seats q p c l (record { clock = (manager_at q p).clock + 1; end = end; low = low }) x p' (grind (arith, nat_tests)) (grind (arith, nat_tests))

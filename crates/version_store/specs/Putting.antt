@@ -3,7 +3,7 @@ use Rattle.std.specs.Prelude.{ℕ, cond, ◌||◌, List, Ok, Err, Result, nat_lt
 use Rattle.model.specs.declared.words.Record.{Record}
 use Rattle.model.specs.Maps.{is_there}
 use Rattle.model.specs.Records.{count, record_at, put}
-use Rattle.version_store.specs.declared.full.Full.{Full}
+use Rattle.model.specs.declared.words.Full.{Full}
 
 -- an answer, and the records that are left
 pub record PuttingOutcome (V : Type 0) : Type 0 where

@@ -5,8 +5,7 @@ ghost use Rattle.model.specs.Maps.{is_there};
 ghost use Rattle.model.specs.Records.{Ascending, count, record_at, newest, mark, drop_record};
 ghost use Rattle.version_store.specs.Putting.{putting, put_in};
 
-use crate::full::Full;
-use model::Record;
+use model::{Full, Record};
 
 /// A store names its kind of value and its capacity; it asks of a value only that it can be copied. An implementation shows just this, and how the records lie in memory is its own.
 pub trait VersionStore {

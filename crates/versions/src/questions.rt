@@ -1,64 +1,63 @@
 //! Questions on the records of a key. A loop goes down its versions, the highest first.
-ghost use Rattle.std.specs.Prelude.{◌≡◌, max, ◌||◌};
+ghost use Rattle.std.specs.Prelude.{◌≡◌, max, ◌||◌, nat_lt};
 ghost use Rattle.model.specs.Records.{record_at, newest};
 ghost use Rattle.model.specs.Versions.{is_pending, has_pending, greater_of, greatest_stamped, number_below, greatest_below};
 ghost use Rattle.versions.specs.Meaning.{greatest_of};
 ghost use Rattle.versions.specs.Down.{older};
 
-use model::Record;
+use model::{Record, Stamped};
 use version_store::VersionStore;
 
 /// The key's record at the version.
 pub fn record_at<S: VersionStore>(store: &S, key: u64, version: u64) -> Option<Record<S::Value>>
     ensures { record_at (S.VersionStore.records store.now) key version ≡ result }
 {
-    let Some(found) = store.newest(key, version) else {
-        return None;
-    };
-    if found.version == version {
-        Some(found)
-    } else {
-        None
-    }
+    store
+        .newest(key, version)
+        .filter(|found| found.version == version)
 }
 
 /// The key's record of greatest version below a version.
 pub fn older<S: VersionStore>(store: &S, key: u64, version: u64) -> Option<Record<S::Value>>
     ensures { older key version (S.VersionStore.records store.now) ≡ result }
 {
-    if version == 0 {
-        return None;
-    }
-    store.newest(key, version - 1)
+    store.newest(key, version.checked_sub(1)?)
 }
 
-/// What the records of a key show: whether one is pending, and the greatest stamped number with its value, or 0 and nothing.
+/// What the records of a key show: whether one is pending, and the greatest stamped number with its value.
 #[derive(Clone, Copy, Drop)]
 pub struct KeySummary<V> {
     pub pending: bool,
-    pub number: u64,
-    pub value: Option<V>,
+    pub greatest: Option<Stamped<V>>,
 }
 
 impl<V: Copy> KeySummary<V> {
+    /// Whether the greatest stamped number is above a number.
+    pub fn is_above(&self, number: u64) -> bool
+        ensures { result ≡ nat_lt number (greatest_of self.now).0 }
+    {
+        self.greatest.is_some_and(|stamped| stamped.number > number)
+    }
+
     /// The summary of the records seen before and this one.
     fn with(self, seen: &Record<V>) -> KeySummary<V>
         ensures pending { result.pending ≡ (self.pending || is_pending seen.now.number) }
         ensures greatest { greatest_of result ≡ greater_of seen.now.number seen.now.value (greatest_of self) }
     {
+        let KeySummary { pending, greatest } = self;
         let Some(number) = seen.number else {
             return KeySummary {
                 pending: true,
-                ..self
+                greatest,
             };
         };
-        if number < self.number {
-            return self;
+        if greatest.is_some_and(|so_far| number < so_far.number) {
+            return KeySummary { pending, greatest };
         }
+        let value = seen.value;
         KeySummary {
-            pending: self.pending,
-            number,
-            value: Some(seen.value),
+            pending,
+            greatest: Some(Stamped { number, value }),
         }
     }
 }
@@ -70,8 +69,7 @@ pub fn summary<S: VersionStore>(store: &S, key: u64) -> KeySummary<S::Value>
 {
     let mut seen = KeySummary {
         pending: false,
-        number: 0,
-        value: None,
+        greatest: None,
     };
     let mut next = store.newest(key, u64::MAX);
     while let Some(current) = next {
@@ -85,10 +83,7 @@ pub fn summary<S: VersionStore>(store: &S, key: u64) -> KeySummary<S::Value>
 fn number_below(floor: u64, number: Option<u64>) -> u64
     ensures { result ≡ number_below floor number }
 {
-    match number {
-        Some(n) => { if n < floor { n } else { 0 } }
-        None => 0,
-    }
+    number.filter(|n| *n < floor).unwrap_or(0)
 }
 
 /// The key's greatest stamped number below the floor, or 0.

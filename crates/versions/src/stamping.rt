@@ -53,7 +53,7 @@ pub fn drop_pending<S: VersionStore>(store: &mut S, key: u64, version: u64) -> b
     let Some(found) = record_at(store, key, version) else {
         return false;
     };
-    if let Some(_) = found.number {
+    if found.number.is_some() {
         return false;
     }
     store.drop_record(key, version)

@@ -5,11 +5,10 @@ ghost use Rattle.model.specs.Records.{record_of, record_at, newest};
 ghost use Rattle.model.specs.Versions.{versions_down};
 ghost use Rattle.model.specs.State.{State};
 ghost use Rattle.model.specs.Reading.{walk};
-ghost use Rattle.versions.specs.Meaning.{numbers_of};
-ghost use Rattle.walks.specs.Memory.{with_memory};
+ghost use Rattle.walks.specs.Memory.{with_lent};
 ghost use Rattle.walks.specs.Reading.{learn, learnt, if_below, judged, read_answer, numbered_below};
 
-use commit_table::{CommitTable, Placing};
+use commit_table::CommitTable;
 use model::{CommitEntry, Record, Refusal};
 use version_store::VersionStore;
 use versions::ClassNumbers;
@@ -28,8 +27,8 @@ fn learn_number<S: VersionStore, C: CommitTable>(
 ) -> Result<Option<u64>, Refusal>
     requires { record_at (S.VersionStore.records store.old) key met.now.version ≡ Some met.now }
     ensures learned { (s : State S.Value) → s.fence ≡ fence → s.opening.entries ≡ C.CommitTable.capacity commits.old
-        → (with_memory (numbers_of classes.new) (S.VersionStore.records store.new) (C.CommitTable.entries commits.new) s, result)
-        ≡ learn key met.now.version (with_memory (numbers_of classes.old) (S.VersionStore.records store.old) (C.CommitTable.entries commits.old) s)
+        → (with_lent classes.new S.VersionStore store.new C.CommitTable commits.new s, result)
+        ≡ learn key met.now.version (with_lent classes.old S.VersionStore store.old C.CommitTable commits.old s)
         met.now.number (look_up (C.CommitTable.entries commits.old) met.now.version) }
     ensures versions { (b : ℕ) → versions_down (S.VersionStore.records store.new) key b [] ≡ versions_down (S.VersionStore.records store.old) key b [] }
     ensures others { (v : ℕ) → (v ≢ met.now.version) → record_at (S.VersionStore.records store.new) key v ≡ record_at (S.VersionStore.records store.old) key v }
@@ -53,9 +52,9 @@ fn learn_number<S: VersionStore, C: CommitTable>(
     if met.version < fence {
         return Ok(None);
     }
-    if let Placing::Full = commits.place(met.version, CommitEntry::Aborted) {
-        return Err(Refusal::EntriesFull { id: met.version });
-    }
+    commits
+        .place(met.version, CommitEntry::Aborted)
+        .map_err(|_| Refusal::EntriesFull { id: met.version })?;
     Ok(None)
 }
 
@@ -71,8 +70,8 @@ fn judge<S: VersionStore, C: CommitTable>(
 ) -> Result<Option<Record<S::Value>>, Refusal>
     requires { record_at (S.VersionStore.records store.old) key met.now.version ≡ Some met.now }
     ensures judged { (s : State S.Value) → s.fence ≡ fence → s.opening.entries ≡ C.CommitTable.capacity commits.old
-        → (with_memory (numbers_of classes.new) (S.VersionStore.records store.new) (C.CommitTable.entries commits.new) s, result)
-        ≡ judged id key met.now (with_memory (numbers_of classes.old) (S.VersionStore.records store.old) (C.CommitTable.entries commits.old) s) }
+        → (with_lent classes.new S.VersionStore store.new C.CommitTable commits.new s, result)
+        ≡ judged id key met.now (with_lent classes.old S.VersionStore store.old C.CommitTable commits.old s) }
     ensures versions { (b : ℕ) → versions_down (S.VersionStore.records store.new) key b [] ≡ versions_down (S.VersionStore.records store.old) key b [] }
     ensures others { (v : ℕ) → (v ≢ met.now.version) → record_at (S.VersionStore.records store.new) key v ≡ record_at (S.VersionStore.records store.old) key v }
     ensures numbered { IfOk result (λ o. o ≡ if_below id (record_at (S.VersionStore.records store.new) key met.now.version)) }
@@ -102,9 +101,9 @@ pub fn walk<S: VersionStore, C: CommitTable>(
     key: u64,
 ) -> Result<Option<Record<S::Value>>, Refusal>
     ensures walked { (s : State S.Value) → s.fence ≡ fence → s.opening.entries ≡ C.CommitTable.capacity commits.old
-        → (with_memory (numbers_of classes.new) (S.VersionStore.records store.new) (C.CommitTable.entries commits.new) s, read_answer result)
+        → (with_lent classes.new S.VersionStore store.new C.CommitTable commits.new s, read_answer result)
         ≡ walk id key (versions_down (S.VersionStore.records store.old) key id [])
-        (with_memory (numbers_of classes.old) (S.VersionStore.records store.old) (C.CommitTable.entries commits.old) s) }
+        (with_lent classes.old S.VersionStore store.old C.CommitTable commits.old s) }
     ensures found { IfOk result (λ o. o ≡ newest key id (numbered_below id (S.VersionStore.records store.new))) }
     ensures records { S.VersionStore.capacity store.new ≡ S.VersionStore.capacity store.old }
     ensures entries { C.CommitTable.capacity commits.new ≡ C.CommitTable.capacity commits.old }

@@ -5,8 +5,7 @@ ghost use Rattle.model.specs.Records.{count, record_at};
 ghost use Rattle.model.specs.Versions.{versions_down, versions, number_under};
 ghost use Rattle.model.specs.State.{State, with_records};
 ghost use Rattle.model.specs.Sweeping.{drop_low, sweep_number, sweep_down, sweep_under, swept};
-ghost use Rattle.versions.specs.Meaning.{numbers_of};
-ghost use Rattle.walks.specs.Memory.{with_memory};
+ghost use Rattle.walks.specs.Memory.{with_lent};
 
 use commit_table::CommitTable;
 use model::{CommitEntry, Record};
@@ -25,8 +24,8 @@ fn sweep_pending<S: VersionStore, C: CommitTable>(
     met: &Record<S::Value>,
 )
     requires { record_at (S.VersionStore.records store.old) key met.now.version ≡ Some met.now }
-    ensures swept { (s : State S.Value) → s.floor ≡ floor → (n : ℕ) → (with_memory (numbers_of classes.new) (S.VersionStore.records store.new) (C.CommitTable.entries commits.now) s, n + (count (S.VersionStore.records store.old) - count (S.VersionStore.records store.new)))
-        ≡ sweep_number key met.now.version (with_memory (numbers_of classes.old) (S.VersionStore.records store.old) (C.CommitTable.entries commits.now) s) n met.now.number }
+    ensures swept { (s : State S.Value) → s.floor ≡ floor → (n : ℕ) → (with_lent classes.new S.VersionStore store.new C.CommitTable commits.now s, n + (count (S.VersionStore.records store.old) - count (S.VersionStore.records store.new)))
+        ≡ sweep_number key met.now.version (with_lent classes.old S.VersionStore store.old C.CommitTable commits.now s) n met.now.number }
     ensures lower { (b : ℕ) → b < met.now.version → versions_down (S.VersionStore.records store.new) key b [] ≡ versions_down (S.VersionStore.records store.old) key b [] }
     ensures fewer { count (S.VersionStore.records store.new) ≤ count (S.VersionStore.records store.old) }
     ensures kept { S.VersionStore.capacity store.new ≡ S.VersionStore.capacity store.old }
@@ -53,8 +52,8 @@ fn sweep_all_pending<S: VersionStore, C: CommitTable>(
     commits: &C,
     key: u64,
 )
-    ensures swept { (s : State S.Value) → s.floor ≡ floor → (with_memory (numbers_of classes.new) (S.VersionStore.records store.new) (C.CommitTable.entries commits.now) s, count (S.VersionStore.records store.old) - count (S.VersionStore.records store.new))
-        ≡ sweep_down key (versions key (S.VersionStore.records store.old)) (with_memory (numbers_of classes.old) (S.VersionStore.records store.old) (C.CommitTable.entries commits.now) s) 0 }
+    ensures swept { (s : State S.Value) → s.floor ≡ floor → (with_lent classes.new S.VersionStore store.new C.CommitTable commits.now s, count (S.VersionStore.records store.old) - count (S.VersionStore.records store.new))
+        ≡ sweep_down key (versions key (S.VersionStore.records store.old)) (with_lent classes.old S.VersionStore store.old C.CommitTable commits.now s) 0 }
     ensures fewer { count (S.VersionStore.records store.new) ≤ count (S.VersionStore.records store.old) }
     ensures kept { S.VersionStore.capacity store.new ≡ S.VersionStore.capacity store.old }
 {
@@ -103,8 +102,8 @@ pub fn sweep<S: VersionStore, C: CommitTable>(
     commits: &C,
     key: u64,
 ) -> u64
-    ensures swept { (s : State S.Value) → s.floor ≡ floor → (with_memory (numbers_of classes.new) (S.VersionStore.records store.new) (C.CommitTable.entries commits.now) s, Number result)
-        ≡ swept key (sweep_down key (versions key (S.VersionStore.records store.old)) (with_memory (numbers_of classes.old) (S.VersionStore.records store.old) (C.CommitTable.entries commits.now) s) 0) }
+    ensures swept { (s : State S.Value) → s.floor ≡ floor → (with_lent classes.new S.VersionStore store.new C.CommitTable commits.now s, Number result)
+        ≡ swept key (sweep_down key (versions key (S.VersionStore.records store.old)) (with_lent classes.old S.VersionStore store.old C.CommitTable commits.now s) 0) }
     ensures kept { S.VersionStore.capacity store.new ≡ S.VersionStore.capacity store.old }
 {
     let before = store.count();

@@ -1,5 +1,5 @@
 -- What the reference step gives on each way through write.
-use Rattle.std.proofs.Common.{◌≡◌, ℕ, ◌<◌, ◌≤◌, true, false, not, ◌&&◌, leb, List, length, Some, None, Option, refl}
+use Rattle.std.proofs.Common.{◌≡◌, ℕ, ◌<◌, ◌≤◌, true, false, not, ◌&&◌, leb, List, length, Some, None, refl, ltb}
 use Rattle.std.proofs.lemmas.Bool.{lt-ltb, le-ltb}
 use Rattle.model.specs.declared.words.Phase.{Phase}
 use Rattle.model.specs.declared.words.Phase.TheVariants.{Open, Validated, Settled}
@@ -9,13 +9,11 @@ use Rattle.model.specs.declared.call.Answer.TheVariants.{Denied, Number}
 use Rattle.model.specs.Maps.{look_up, enter}
 use Rattle.model.specs.Records.{record_of, put}
 use Rattle.model.specs.Versions.{greatest_stamped}
-use Rattle.model.specs.Transactions.{Transaction, transaction, member, with_key}
+use Rattle.model.specs.Transactions.{transaction, member, with_key}
 use Rattle.model.specs.State.{State, with_rows, with_records}
 use Rattle.model.specs.Stamping.{record_refused}
 use Rattle.model.specs.Writing.{write_at, write_in, write_if}
 use Rattle.model.specs.Step.{step}
-use Rattle.engine.proofs.Options.{none_unless, some_unless}
-use Rattle.writing.specs.Keys.{add_key}
 
 module _ {V : Type 0} (s : State V) (id k : ℕ) (x : V) where
   pub write_no_row : look_up s.rows id ≡ None → step s (Write id k x) ≡ (s, Denied (NoRow id))
@@ -38,26 +36,21 @@ module _ {V : Type 0} (s : State V) (id k : ℕ) (x : V) where
       write_fenced l = rw (e, h, lt-ltb id s.fence l) refl
 
       module _ (l : s.fence ≤ id) where
-        pub write_keys_full : None ≡ add_key k (transaction p ks n) → step s (Write id k x) ≡ (s, Denied (KeysFull k))
+        pub write_keys_full : (not (member k ks) && leb 16 (length ks)) ≡ true → step s (Write id k x) ≡ (s, Denied (KeysFull k))
         unfolding step write_at write_in write_if
-        write_keys_full f = rw (e, h, le-ltb id s.fence l, none_unless (not (member k ks) && leb 16 (length ks)) _ f) refl
+        write_keys_full f = rw (e, h, le-ltb id s.fence l, f) refl
 
-        module _ (t : Transaction) (a : Some t ≡ add_key k (transaction p ks n)) (m : ℕ × Option V) (g : m ≡ greatest_stamped k s.records) where
-          added : ((not (member k ks) && leb 16 (length ks)) ≡ false) × (transaction p (with_key k ks) n ≡ t)
-          added = some_unless (not (member k ks) && leb 16 (length ks)) _ t a
-
-          greatest : (greatest_stamped k s.records).0 ≡ m.0
-          greatest = rw g refl
-
-          pub write_conflict : id < m.0 → step s (Write id k x) ≡ (s, Denied (ConflictAtEngine k))
+        module _ (a : (not (member k ks) && leb 16 (length ks)) ≡ false) where
+          pub write_conflict : ltb id (greatest_stamped k s.records).0 ≡ true → step s (Write id k x) ≡ (s, Denied (ConflictAtEngine k))
           unfolding step write_at write_in write_if
-          write_conflict c = rw (e, h, le-ltb id s.fence l, added.0, greatest, lt-ltb id m.0 c) refl
+          write_conflict c = rw (e, h, le-ltb id s.fence l, a, c) refl
 
-          module _ (c : m.0 ≤ id) where
+          module _ (c : ltb id (greatest_stamped k s.records).0 ≡ false) where
             pub write_store_full : record_refused k id s ≡ true → step s (Write id k x) ≡ (s, Denied (StoreFull k))
             unfolding step write_at write_in write_if
-            write_store_full o = rw (e, h, le-ltb id s.fence l, added.0, greatest, le-ltb id m.0 c, o) refl
+            write_store_full o = rw (e, h, le-ltb id s.fence l, a, c, o) refl
 
-            pub write_done : record_refused k id s ≡ false → step s (Write id k x) ≡ (with_rows (enter id t s.rows) (with_records (put (record_of k id None x) s.records) s), Number (length t.keys))
+            pub write_done : record_refused k id s ≡ false →
+                step s (Write id k x) ≡ (with_rows (enter id (transaction Open (with_key k ks) n) s.rows) (with_records (put (record_of k id None x) s.records) s), Number (length (with_key k ks)))
             unfolding step write_at write_in write_if
-            write_done o = rw (← added.1, e, h, le-ltb id s.fence l, added.0, greatest, le-ltb id m.0 c, o) refl
+            write_done o = rw (e, h, le-ltb id s.fence l, a, c, o) refl

@@ -1,14 +1,31 @@
-//! The calls of the day. A step is 1,048,576 numbers; the first step is 1 and a span has four.
-use model::Call;
+//! The calls of the day. Ids are whole steps; the first step is 1 and a span has four.
+use manager::steps::STEP;
+use model::{Call, Opening};
 
-/// The numbers of the first steps.
-const U1: u64 = 1048576;
+pub const OPENING: Opening = Opening {
+    first: 1,
+    span: 4,
+    rows: 64,
+    conflicts0: 64,
+    conflicts1: 64,
+    records: 256,
+    entries: 64,
+};
 
-const U3: u64 = 3145728;
+/// The delivery's id.
+const DELIVERY: u64 = STEP;
 
-const U4: u64 = 4194304;
+/// The number at which the delivery committed.
+const DELIVERED: u64 = 2 * STEP;
 
-const U9: u64 = 9437184;
+/// The stocktake's id.
+const STOCKTAKE: u64 = 3 * STEP;
+
+/// The sale's id.
+const SALE: u64 = 4 * STEP;
+
+/// Where the second manager starts: its floor, and the id of its first transaction.
+const HANDOVER: u64 = 9 * STEP;
 
 const APPLES: u64 = 7;
 
@@ -21,27 +38,30 @@ pub const DAY: [Call<i64>; 27] = [
     // a delivery, carried through all phases
     Call::Begin { seat: 0 },
     Call::Read {
-        id: U1,
+        id: DELIVERY,
         key: APPLES,
     },
     Call::Write {
-        id: U1,
+        id: DELIVERY,
         key: APPLES,
         value: 50,
     },
     Call::Write {
-        id: U1,
+        id: DELIVERY,
         key: PEARS,
         value: 5,
     },
-    Call::Validate { id: U1, seat: 0 },
-    Call::Settle { id: U1 },
-    Call::Stamp { id: U1 },
-    Call::Stamp { id: U1 },
+    Call::Validate {
+        id: DELIVERY,
+        seat: 0,
+    },
+    Call::Settle { id: DELIVERY },
+    Call::Stamp { id: DELIVERY },
+    Call::Stamp { id: DELIVERY },
     // a stocktake reads what it left
     Call::Begin { seat: 0 },
     Call::Read {
-        id: U3,
+        id: STOCKTAKE,
         key: APPLES,
     },
     Call::FastRead { key: APPLES },
@@ -51,31 +71,34 @@ pub const DAY: [Call<i64>; 27] = [
         value: 12,
     },
     Call::FastChange {
-        seen: 2097152,
+        seen: DELIVERED,
         key: APPLES,
         value: 49,
     },
     // a sale is validated, and then the other manager takes over: it cannot settle any more
     Call::Begin { seat: 0 },
     Call::Write {
-        id: U4,
+        id: SALE,
         key: PEARS,
         value: 4,
     },
-    Call::Validate { id: U4, seat: 0 },
+    Call::Validate { id: SALE, seat: 0 },
     Call::Takeover { seat: 1 },
-    Call::Settle { id: U4 },
-    Call::Bury { id: U4 },
-    Call::Abandon { id: U3 },
+    Call::Settle { id: SALE },
+    Call::Bury { id: SALE },
+    Call::Abandon { id: STOCKTAKE },
     // nobody reads below the new manager's first step: old versions go
-    Call::Raise { floor: U9 },
+    Call::Raise { floor: HANDOVER },
     Call::Sweep { key: APPLES },
     // what the next transaction finds
     Call::Begin { seat: 1 },
     Call::Read {
-        id: U9,
+        id: HANDOVER,
         key: APPLES,
     },
-    Call::Read { id: U9, key: PEARS },
-    Call::Abandon { id: U9 },
+    Call::Read {
+        id: HANDOVER,
+        key: PEARS,
+    },
+    Call::Abandon { id: HANDOVER },
 ];

@@ -4,28 +4,20 @@
 #![tactic(auto)]
 
 mod day;
-mod hosts;
 
-use day::DAY;
-use hosts::{on_chains_and_strip, on_shelf_and_sheet};
+use day::{DAY, OPENING};
+use host::{CommitTableKind, StoreKind, run_on};
 use model::Answer;
-use std::alloc::Global;
 
-fn line_of(heap: Global, answer: &Answer<i64>) -> anyhow::Result<String> {
-    Ok(format!(in heap; "{answer}")?)
-}
-
+/// Prints each call with its answer, and counts the answers that are equal.
 fn show(rt: &HostRuntime, first: &[Answer<i64>], second: &[Answer<i64>]) -> anyhow::Result<usize> {
-    let heap = rt.alloc();
     let mut equal = 0usize;
     for ((call, one), other) in DAY.iter().zip(first.iter()).zip(second.iter()) {
-        let shown = line_of(heap, one)?;
-        let again = line_of(heap, other)?;
-        println!(rt; "{call}: {shown}")?;
-        if shown == again {
+        println!(rt; "{call}: {one}")?;
+        if one == other {
             equal = equal.saturating_add(1);
         } else {
-            println!(rt; "  on chains and strip: {again}")?;
+            println!(rt; "  on chains and strip: {other}")?;
         }
     }
     Ok(equal)
@@ -33,11 +25,10 @@ fn show(rt: &HostRuntime, first: &[Answer<i64>], second: &[Answer<i64>]) -> anyh
 
 fn main(rt: HostRuntime) -> anyhow::Result<()> {
     let heap = rt.alloc();
-    let blank: Answer<i64> = Answer::Number(0);
-    let mut first = vec![in heap; blank; DAY.len()]?;
-    let mut second = vec![in heap; blank; DAY.len()]?;
-    on_shelf_and_sheet(heap, &DAY, first.as_mut_slice())?;
-    on_chains_and_strip(heap, &DAY, second.as_mut_slice())?;
+    let (shelf, sheet) = (StoreKind::Shelf, CommitTableKind::Sheet);
+    let (chains, strip) = (StoreKind::Chains, CommitTableKind::Strip);
+    let first = run_on(heap, shelf, sheet, &OPENING, 0, &DAY)?;
+    let second = run_on(heap, chains, strip, &OPENING, 0, &DAY)?;
     let equal = show(&rt, first.as_slice(), second.as_slice())?;
     let calls = DAY.len();
     println!(rt; "{equal} of {calls} answers are equal on both")?;

@@ -10,7 +10,7 @@ pub returns : goal.returns
 returns g c =
     let S = g.S.VersionStore in
     let C = g.C.CommitTable in
-    let s = database c.args.engine.now c.args.rows.now c.args.conflicts0.now c.args.conflicts1.now (S.records c.args.store.now) (S.capacity c.args.store.now) (C.entries c.args.commits.now) (C.capacity c.args.commits.now) in
+    let s = database c.args.engine.now c.args.tables.now S c.args.store.now C c.args.commits.now in
     same _ (with_memory (numbers_of c.sweep.new.classes) (S.records c.sweep.new.store) (C.entries c.args.commits.now) s) _ _
     refl refl refl refl refl refl refl refl refl
     (same_sizes _ _ _ _ _ _ _ _ _ _ _ _ _ refl refl refl refl c.sweep.ensures.kept refl) refl

@@ -1,13 +1,9 @@
-use Rattle.std.proofs.Common.{refl, arith}
-use Rattle.chains.proofs.Relinking.{redirected_read, redirected_head}
+use Rattle.std.proofs.Common.{refl}
+use Rattle.chains.proofs.Redirecting.{redirected_node}
 use Rattle.chains.proofs.relink.redirect.Goals as goal
 
-pub returns-then-prev-memory : goal.returns-then-prev-memory
-returns-then-prev-memory g c =
-    let l = c.args.memory.now in
-    record { nodes = redirected_read l.nodes.now c.write_node.new.memory.nodes.now l.heads c.write_node.new.memory.heads c.args.chain c.args.prev c.args.x c.node_at-p.result (omega arith) c.node_at-p.ensures c.write_node.ensures.nodes c.write_node.ensures.heads; free = c.write_node.ensures.free }
-
-pub returns-else-prev-memory : goal.returns-else-prev-memory
-returns-else-prev-memory g c =
-    let l = c.args.memory.now in
-    record { nodes = redirected_head l.nodes.now l.heads c.args.chain c.args.prev c.args.x (omega arith) c.requires.0 c.requires.1; free = refl }
+pub returns-in-Some : goal.returns-in-Some
+returns-in-Some g c =
+    let ns = c.args.nodes.now in
+    let hs = c.args.heads.now in
+    rw c.in-Some.is (redirected_node ns hs c.args.chain c.in-Some.at c.args.to c.index-nodes-at.result _ (c.requires.inside c.in-Some.at c.in-Some.is) refl refl)

@@ -1,4 +1,4 @@
-use Rattle.std.proofs.Common.{◌+◌, ◌<◌, ◌≤◌, length, take, sym, refl, ap, ◌∙◌, arith}
+use Rattle.std.proofs.Common.{◌<◌, ◌≤◌, length, sym, refl, ap, ◌∙◌, arith}
 use Rattle.std.proofs.lemmas.List.{take_all}
 use Rattle.model.specs.After.{after}
 use Rattle.database.specs.Running.{answers_to}
@@ -8,16 +8,13 @@ use Rattle.database.proofs.running.answer_all.Goals as goal
 pub loop-i-init : goal.loop-i-init
 loop-i-init g c = (refl, refl)
 
-pub write_answer-requires : goal.write_answer-requires
-write_answer-requires g c = omega (arith, c.loop-i.auto.answers, c.requires, c.loop-i-test.true)
-
 pub loop-i-preserved : goal.loop-i-preserved
 loop-i-preserved g c =
     let i = c.loop-i.i in
     let calls = c.args.calls.now in
     let m : i < length c.loop-i.answers = omega (arith, c.loop-i.auto.answers, c.requires, c.loop-i-test.true) in (
-      state_more _ _ _ _ calls c.loop-i.answers i c.index-calls-i.result c.loop-i-test.true c.index-calls-i.is c.loop-i.invariant.0 c.call-answer.ensures,
-      ap (take (i + 1)) c.write_answer.ensures ∙ answer_more _ _ _ _ calls c.loop-i.answers i c.index-calls-i.result c.loop-i-test.true c.index-calls-i.is c.loop-i.invariant.0 c.call-answer.ensures m c.loop-i.invariant.1,
+      state_more _ _ _ _ calls c.loop-i.answers i c.index-calls-i.result c.loop-i-test.true c.index-calls-i.is c.loop-i.invariant.0 c.call.ensures,
+      answer_more _ _ _ _ calls c.loop-i.answers i c.index-calls-i.result c.loop-i-test.true c.index-calls-i.is c.loop-i.invariant.0 c.call.ensures m c.loop-i.invariant.1,
     )
 
 pub returns : goal.returns

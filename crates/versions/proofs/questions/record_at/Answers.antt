@@ -1,17 +1,21 @@
-use Rattle.std.proofs.Common.{arith}
-use Rattle.model.proofs.Newest.{none_at, newest_is, newest_at, newest_gap}
+use Rattle.std.proofs.Common.{rules, ◌≡◌, ℕ, Bool, List, Option, Some, None, cond, eqb, nat_eq, arith, ap, ◌∙◌, sym}
+use Rattle.std.proofs.lemmas.Bool.Decides.{nat_tests}
+use Rattle.std.specs.Option.{MatchOption}
+use Rattle.std.specs.Bool.{then_some}
+use Rattle.model.specs.declared.words.Record.{Record}
+use Rattle.model.specs.Records.{Ascending, record_at, newest}
+use Rattle.model.proofs.Newest.{exact, at_newest}
 use Rattle.versions.proofs.questions.record_at.Goals as goal
 
-pub returns-in_default : goal.returns-in_default
-returns-in_default g c = none_at (g.S.VersionStore.records c.args.store.now) c.args.key c.args.version c.args.version c.in_default.ensures (omega arith)
+module _ {V : Type 0} (l : List (Record V)) (k v : ℕ) (A : Ascending l) where
+  kept : (x : Record V) (b : Bool) → b ≡ nat_eq x.version v → cond (eqb v x.version) (Some x) None ≡ then_some b x
+  kept x b e = grind (arith, nat_tests)
 
-pub returns-then-found-version : goal.returns-then-found-version
-returns-then-found-version g c =
-    let l = g.S.VersionStore.records c.args.store.now in
-    rw (← c.if-found-version.true) (newest_at l c.args.key c.args.version c.in-Some.found (g.S.VersionStore.ordered c.args.store.now) c.in-Some.ensures)
+  -- the newest record up to v, where a test P of its version keeps it
+  filtered : (o r : Option (Record V)) (P : Record V → Bool → Type 0) → ((x : Record V) (b : Bool) → P x b → b ≡ nat_eq x.version v) → newest k v l ≡ o
+      → MatchOption o (r ≡ None) (λ x. (b : Bool) × P x b × (r ≡ then_some b x)) → record_at l k v ≡ r
+  filtered None r P t n h = at_newest l k v A ∙ (ap (exact v) n ∙ sym h)
+  filtered (Some x) r P t n h = at_newest l k v A ∙ (ap (exact v) n ∙ (kept x h.0 (t x h.0 h.1) ∙ sym h.2))
 
-pub returns-else-found-version : goal.returns-else-found-version
-returns-else-found-version g c =
-    let l = g.S.VersionStore.records c.args.store.now in
-    let p = newest_is l c.args.key c.args.version c.in-Some.found c.in-Some.ensures in
-    newest_gap l c.args.key c.args.version c.in-Some.found c.args.version c.in-Some.ensures (g.S.VersionStore.ordered c.args.store.now) (omega arith) (omega arith)
+pub returns : goal.returns
+returns g c = filtered (g.S.VersionStore.records c.args.store.now) c.args.key c.args.version (g.S.VersionStore.ordered c.args.store.now) _ _ _ (λ x b p. search rules) c.newest.ensures c.filter.ensures

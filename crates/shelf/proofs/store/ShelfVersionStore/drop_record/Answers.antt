@@ -1,25 +1,22 @@
-use Rattle.std.proofs.Common.{sym, refl, arith}
-use Rattle.shelf.specs.Meaning.{shelved}
+use Rattle.std.proofs.Common.{sym, ap}
+use Rattle.model.specs.Maps.{is_there}
 use Rattle.version_store.proofs.Lookups.{drop_none}
-use Rattle.shelf.proofs.Shelves.{hit_within, hit_there, miss_there, dropped}
+use Rattle.shelf.specs.Meaning.{shelved}
+use Rattle.shelf.proofs.Searches.{hit_there, miss_none}
+use Rattle.shelf.proofs.Shelves.{ascending, dropped}
 use Rattle.shelf.proofs.store.ShelfVersionStore.drop_record.Goals as goal
 
-pub index_up-requires : goal.index_up-requires
-index_up-requires g c = let l = hit_within c.args.self.now c.args.key c.args.version c.in-Ok.position c.in-Ok.ensures in (omega arith, omega arith)
+pub returns-in_default-clause-answer : goal.returns-in_default-clause-answer
+returns-in_default-clause-answer g c = sym (ap is_there (miss_none c.args.key c.args.version _ (shelved c.args.self.now) c.in_default.ensures))
+
+pub returns-in_default-clause-after : goal.returns-in_default-clause-after
+returns-in_default-clause-after g c = sym (drop_none c.args.key c.args.version (shelved c.args.self.now) (miss_none c.args.key c.args.version _ (shelved c.args.self.now) c.in_default.ensures))
 
 pub invariant_of-self : goal.invariant_of-self
-invariant_of-self g c = (dropped c.args.self.now c.args.key c.args.version c.in-Ok.position c.index_up.new.memory c.in-Ok.ensures c.index_up.ensures.records c.index_up.ensures.index c.index_up.ensures.long).1
+invariant_of-self g c = (dropped c.args.self.now c.args.key c.args.version c.in-Ok.position c.rotate_left.new.self c.in-Ok.ensures c.rotate_left.ensures.permutation c.rotate_left.ensures.after).1
 
-pub returns-in-Ok : goal.returns-in-Ok
-returns-in-Ok g c = record {
-  answer = hit_there c.args.self.now c.args.key c.args.version c.in-Ok.position c.in-Ok.ensures;
-  after = (dropped c.args.self.now c.args.key c.args.version c.in-Ok.position c.index_up.new.memory c.in-Ok.ensures c.index_up.ensures.records c.index_up.ensures.index c.index_up.ensures.long).0;
-  kept = refl;
-}
+pub returns-clause-answer : goal.returns-clause-answer
+returns-clause-answer g c = hit_there c.args.key c.args.version c.in-Ok.position (shelved c.args.self.now) (ascending c.args.self.now) c.in-Ok.ensures
 
-pub returns-in-Err : goal.returns-in-Err
-returns-in-Err g c = record {
-  answer = miss_there c.args.self.now c.args.key c.args.version _ c.in-Err.ensures;
-  after = sym (drop_none c.args.key c.args.version (shelved c.args.self.now) c.in-Err.ensures.absent);
-  kept = refl;
-}
+pub returns-clause-after : goal.returns-clause-after
+returns-clause-after g c = (dropped c.args.self.now c.args.key c.args.version c.in-Ok.position c.rotate_left.new.self c.in-Ok.ensures c.rotate_left.ensures.permutation c.rotate_left.ensures.after).0

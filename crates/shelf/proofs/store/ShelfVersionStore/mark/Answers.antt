@@ -1,25 +1,22 @@
-use Rattle.std.proofs.Common.{sym, refl}
-use Rattle.shelf.specs.Meaning.{shelved}
+use Rattle.std.proofs.Common.{sym, ap}
+use Rattle.model.specs.Maps.{is_there}
 use Rattle.version_store.proofs.Lookups.{mark_none}
-use Rattle.shelf.proofs.Shelves.{hit_within, hit_there, miss_there, marked_there}
+use Rattle.shelf.specs.Meaning.{shelved}
+use Rattle.shelf.proofs.Searches.{hit_there, miss_none}
+use Rattle.shelf.proofs.Shelves.{ascending, marked_there}
 use Rattle.shelf.proofs.store.ShelfVersionStore.mark.Goals as goal
 
-pub record_at-r-requires : goal.record_at-r-requires
-record_at-r-requires g c = hit_within c.args.self.now c.args.key c.args.version c.in-Ok.position c.in-Ok.ensures
+pub returns-in_default-clause-answer : goal.returns-in_default-clause-answer
+returns-in_default-clause-answer g c = sym (ap is_there (miss_none c.args.key c.args.version _ (shelved c.args.self.now) c.in_default.ensures))
+
+pub returns-in_default-clause-after : goal.returns-in_default-clause-after
+returns-in_default-clause-after g c = sym (mark_none c.args.key c.args.version c.args.number (shelved c.args.self.now) (miss_none c.args.key c.args.version _ (shelved c.args.self.now) c.in_default.ensures))
 
 pub invariant_of-self : goal.invariant_of-self
-invariant_of-self g c = (marked_there c.args.self.now c.args.key c.args.version c.args.number c.in-Ok.position c.place-place.result c.record_at-r.result c.write_record.new.memory c.in-Ok.ensures c.place-place.ensures c.record_at-r.ensures c.write_record.ensures.records c.write_record.ensures.index).1
+invariant_of-self g c = (marked_there c.args.self.now c.args.key c.args.version c.args.number c.in-Ok.position c.place-place.result c.index-self-place.result c.in-Ok.ensures c.place-place.ensures).1
 
-pub returns-in-Ok : goal.returns-in-Ok
-returns-in-Ok g c = record {
-  answer = hit_there c.args.self.now c.args.key c.args.version c.in-Ok.position c.in-Ok.ensures;
-  after = (marked_there c.args.self.now c.args.key c.args.version c.args.number c.in-Ok.position c.place-place.result c.record_at-r.result c.write_record.new.memory c.in-Ok.ensures c.place-place.ensures c.record_at-r.ensures c.write_record.ensures.records c.write_record.ensures.index).0;
-  kept = refl;
-}
+pub returns-clause-answer : goal.returns-clause-answer
+returns-clause-answer g c = hit_there c.args.key c.args.version c.in-Ok.position (shelved c.args.self.now) (ascending c.args.self.now) c.in-Ok.ensures
 
-pub returns-in-Err : goal.returns-in-Err
-returns-in-Err g c = record {
-  answer = miss_there c.args.self.now c.args.key c.args.version _ c.in-Err.ensures;
-  after = sym (mark_none c.args.key c.args.version c.args.number (shelved c.args.self.now) c.in-Err.ensures.absent);
-  kept = refl;
-}
+pub returns-clause-after : goal.returns-clause-after
+returns-clause-after g c = (marked_there c.args.self.now c.args.key c.args.version c.args.number c.in-Ok.position c.place-place.result c.index-self-place.result c.in-Ok.ensures c.place-place.ensures).0

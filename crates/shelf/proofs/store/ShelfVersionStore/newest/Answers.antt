@@ -1,14 +1,21 @@
-use Rattle.shelf.proofs.Shelves.{ranked_in, newest_nothing, newest_found, newest_missing}
+use Rattle.std.proofs.Common.{get_or, sym, ap, ◌∙◌, arith}
+use Rattle.shelf.specs.Meaning.{shelved}
+use Rattle.shelf.proofs.Searches.{newest_first, newest_hit, newest_miss}
+use Rattle.shelf.proofs.Shelves.{ascending}
+use Rattle.shelf.proofs.store.ShelfVersionStore.newest.Goals.{in-Ok, in-Err+in_ok-position-in-Err}
 use Rattle.shelf.proofs.store.ShelfVersionStore.newest.Goals as goal
 
-pub returns-then-rank-eq0 : goal.returns-then-rank-eq0
-returns-then-rank-eq0 g c = newest_nothing c.args.self.now c.args.key c.args.bound c.rank-rank.result c.rank-rank.ensures c.if-rank-eq0.true
+pub returns-in_err-position-in-Err : goal.returns-in_err-position-in-Err
+returns-in_err-position-in-Err g c = newest_first c.args.key c.args.bound c.in-Err.above (shelved c.args.self.now) c.in-Err.ensures (omega (arith, c.in_err-position-in-Err.ensures)) ∙ sym c.from_residual.ensures
 
-pub record_at-r-requires : goal.record_at-r-requires
-record_at-r-requires g c = ranked_in c.args.self.now c.args.key c.args.bound c.rank-rank.result c.rank-rank.ensures c.if-rank-eq0.false
-
-pub returns-then-r-key : goal.returns-then-r-key
-returns-then-r-key g c = newest_found c.args.self.now c.args.key c.args.bound c.rank-rank.result c.record_at-r.result c.rank-rank.ensures c.if-rank-eq0.false c.record_at-r.ensures c.if-r-key.true
-
-pub returns-else-r-key : goal.returns-else-r-key
-returns-else-r-key g c = newest_missing c.args.self.now c.args.key c.args.bound c.rank-rank.result c.record_at-r.result c.rank-rank.ensures c.if-rank-eq0.false c.record_at-r.ensures c.if-r-key.false
+pub returns : goal.returns
+returns g c =
+    let s = c.args.self.now in
+    let x = c.record_at-newest.result in
+    elim c.match-find.branch [
+      | in-Ok w ↦
+          newest_hit c.args.key c.args.bound w.in-Ok.position (shelved s) x (ascending s) w.in-Ok.ensures (c.record_at-newest.ensures ∙ ap (λ i. get_or (shelved s) i x) w.position-is) ∙ sym c.then_some.ensures
+      | in-Err+in_ok-position-in-Err w ↦
+          newest_miss c.args.key c.args.bound w.in_ok-position-in-Err.position w.in-Err.above (shelved s) x (ascending s) w.in-Err.ensures (omega (arith, w.in_ok-position-in-Err.ensures)) (c.record_at-newest.ensures ∙ ap (λ i. get_or (shelved s) i x) w.position-is)
+          ∙ sym c.then_some.ensures
+    ]

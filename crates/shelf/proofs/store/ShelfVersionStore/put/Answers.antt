@@ -1,40 +1,36 @@
-use Rattle.std.proofs.Common.{◌<◌, length, Ok, sym, refl, ap, ◌∙◌, arith}
-use Rattle.std.proofs.lemmas.Bool.{eqb-true, eqb-false}
+use Rattle.std.proofs.Common.{length, Ok, sym, ap, ◌∙◌, arith}
 use Rattle.version_store.specs.Putting.{putting}
-use Rattle.shelf.proofs.Shelves.{miss_within, replaced, new_added, put_replaced, put_added, put_refused}
+use Rattle.version_store.proofs.Puts.{put_new, put_full}
+use Rattle.shelf.specs.Meaning.{shelved}
+use Rattle.shelf.proofs.Searches.{hit_over, miss_none}
+use Rattle.shelf.proofs.Shelves.{ascending, replaced, spare, added}
 use Rattle.shelf.proofs.store.ShelfVersionStore.put.Goals as goal
 
 pub invariant_of-self : goal.invariant_of-self
-invariant_of-self g c = (replaced c.args.self.now c.args.item.now c.in-Ok.position c.place-place.result c.write_record.new.memory c.in-Ok.ensures c.place-place.ensures c.write_record.ensures.records c.write_record.ensures.index).1
+invariant_of-self g c = (replaced c.args.self.now c.args.item.now c.in-Ok.position c.place-place.result c.in-Ok.ensures c.place-place.ensures).1
 
-pub returns-in-Ok : goal.returns-in-Ok
-returns-in-Ok g c =
+pub returns-then-len-self-clause-after : goal.returns-then-len-self-clause-after
+returns-then-len-self-clause-after g c =
     let s = c.args.self.now in
-    let all = replaced s c.args.item.now c.in-Ok.position c.place-place.result c.write_record.new.memory c.in-Ok.ensures c.place-place.ensures c.write_record.ensures.records c.write_record.ensures.index in
-    record { after = ap (putting (Ok tt)) all.0 ∙ put_replaced s c.args.item.now c.in-Ok.position c.in-Ok.ensures; kept = refl }
-
-pub returns-then-is_full : goal.returns-then-is_full
-returns-then-is_full g c = record { after = put_refused c.args.self.now c.args.item.now c.in-Err.position c.in-Err.ensures (eqb-true c.args.self.now.len c.capacity.result (sym c.if-is_full.ensures) ∙ c.capacity.ensures); kept = refl }
-
-pub index_down-requires : goal.index_down-requires
-index_down-requires g c =
-    let s = c.args.self.now in
-    let at = miss_within s c.args.item.now.key c.args.item.now.version c.in-Err.position c.in-Err.ensures in
-    let long = ap length c.write_record-in-Err.ensures.index in
-    let other = eqb-false s.len c.capacity.result (sym c.if-is_full.ensures) in
-    (omega arith, omega arith)
+    sym (put_full (length s.records.now) c.args.item.now (shelved s) (miss_none c.args.item.now.key c.args.item.now.version c.in-Err.position (shelved s) c.in-Err.ensures) (omega arith))
 
 pub invariant_of-self-in-Err : goal.invariant_of-self-in-Err
-invariant_of-self-in-Err g c =
-    let s = c.args.self.now in
-    let other = eqb-false s.len c.capacity.result (sym c.if-is_full.ensures) in
-    let room : s.len < s.places = omega arith in
-    (new_added s c.args.item.now c.in-Err.position c.place-place-in-Err.result c.write_record-in-Err.new.memory c.index_down.new.memory c.in-Err.ensures room c.place-place-in-Err.ensures c.write_record-in-Err.ensures.records c.write_record-in-Err.ensures.index c.index_down.ensures.records c.index_down.ensures.index c.index_down.ensures.long).1
+invariant_of-self-in-Err g c = spare c.args.self.now c.args.item.now c.place-place-in-Err.result (omega arith) c.place-place-in-Err.ensures
 
-pub returns-else-is_full : goal.returns-else-is_full
-returns-else-is_full g c =
+pub invariant_of-self-in-Err-2 : goal.invariant_of-self-in-Err-2
+invariant_of-self-in-Err-2 g c =
+    (added c.args.self.now c.args.item.now c.in-Err.position c.place-place-in-Err.result c.rotate_right.new.self c.in-Err.ensures (omega arith) c.place-place-in-Err.ensures c.rotate_right.ensures.permutation c.rotate_right.ensures.after).1
+
+pub returns-in-Ok-clause-after : goal.returns-in-Ok-clause-after
+returns-in-Ok-clause-after g c =
     let s = c.args.self.now in
-    let other = eqb-false s.len c.capacity.result (sym c.if-is_full.ensures) in
-    let room : s.len < s.places = omega arith in
-    let all = new_added s c.args.item.now c.in-Err.position c.place-place-in-Err.result c.write_record-in-Err.new.memory c.index_down.new.memory c.in-Err.ensures room c.place-place-in-Err.ensures c.write_record-in-Err.ensures.records c.write_record-in-Err.ensures.index c.index_down.ensures.records c.index_down.ensures.index c.index_down.ensures.long in
-    record { after = ap (putting (Ok tt)) all.0 ∙ put_added s c.args.item.now c.in-Err.position c.in-Err.ensures room; kept = refl }
+    let e = c.args.item.now in
+    ap (putting (Ok tt)) (replaced s e c.in-Ok.position c.place-place.result c.in-Ok.ensures c.place-place.ensures).0 ∙ sym (hit_over (length s.records.now) e c.in-Ok.position (shelved s) (ascending s) c.in-Ok.ensures)
+
+pub returns-else-len-self-clause-after : goal.returns-else-len-self-clause-after
+returns-else-len-self-clause-after g c =
+    let s = c.args.self.now in
+    let e = c.args.item.now in
+    ap (putting (Ok tt))
+    (added s e c.in-Err.position c.place-place-in-Err.result c.rotate_right.new.self c.in-Err.ensures (omega arith) c.place-place-in-Err.ensures c.rotate_right.ensures.permutation c.rotate_right.ensures.after).0
+    ∙ sym (put_new (length s.records.now) e (shelved s) (miss_none e.key e.version c.in-Err.position (shelved s) c.in-Err.ensures) (omega arith))

@@ -1,17 +1,11 @@
-use Rattle.std.proofs.Common.{take, Some, ap, ◌∙◌, arith}
-use Rattle.std.proofs.lemmas.List.{length-take-le, get_or-take}
-use Rattle.table.proofs.Outcomes.{look_hit, look_miss}
+use Rattle.std.proofs.Common.{get_or, Some, ap, ◌∙◌, sym}
+use Rattle.table.proofs.Outcomes.{look_ok, look_err}
 use Rattle.table.proofs.table.Table.look_up.Goals as goal
 
-pub returns-in-Ok : goal.returns-in-Ok
-returns-in-Ok g c =
-    let t = c.args.self.now in
-    let s = t.slots.cells.now in
-    let x = c.index-s-p.result in
-    let h = c.in-Ok.ensures in
-    let long = length-take-le t.len s t.within in
-    let in_p = h.inside in
-    look_hit (take t.len s) _ _ x h ∙ ap (λ y. Some y.value) (get_or-take t.len s c.in-Ok.p x (omega arith))
+pub returns-in_err-p : goal.returns-in_err-p
+returns-in_err-p g c = look_err c.args.self.now c.args.tag c.locate.result c.locate.ensures.bound c.locate.ensures.position (sym c.ok.ensures.value ∙ c.in_err-p.was) ∙ sym c.from_residual.ensures
 
-pub returns-in-Err : goal.returns-in-Err
-returns-in-Err g c = look_miss _ _ _ c.in-Err.ensures
+pub returns : goal.returns
+returns g c =
+    let x = c.index-as_slice-p.result in
+    look_ok c.args.self.now c.args.tag c.in_ok-p.p x c.locate.result c.locate.ensures.bound c.locate.ensures.position (sym c.ok.ensures.value ∙ c.in_ok-p.was) (c.index-as_slice-p.is ∙ ap (λ l. get_or l c.in_ok-p.p x) c.as_slice.ensures) ∙ ap Some (sym c.value.ensures)

@@ -1,24 +1,19 @@
-use Rattle.std.proofs.Common.{take, sym, refl, arith}
-use Rattle.table.proofs.Pairs.{miss_apart, remove_none}
-use Rattle.table.proofs.Outcomes.{shrunk, miss_there, removed_ascends}
+use Rattle.std.proofs.Common.{sym, refl, ap}
+use Rattle.model.specs.Maps.{is_there}
+use Rattle.table.proofs.Outcomes.{look_missed, remove_missed, shrunk}
 use Rattle.table.proofs.table.Table.remove.Goals as goal
+
+pub returns-in_default : goal.returns-in_default
+returns-in_default g c =
+    let t = c.args.self.now in
+    record { answer = sym (ap is_there (look_missed t c.args.tag _ c.in_default.ensures)); after = sym (remove_missed t c.args.tag _ c.in_default.ensures); rest = refl; kept = refl }
 
 pub invariant_of-self : goal.invariant_of-self
 invariant_of-self g c =
-    let t = c.args.self.now in
-    let s = t.slots.cells.now in
-    let w = shrunk s c.remove_in.new.s.cells.now t.len c.args.tag c.in-Ok.p t.within t.sorted c.in-Ok.ensures c.remove_in.ensures in
-    record { within = omega (arith, t.within, w.kept); sorted = removed_ascends (take t.len s) _ c.args.tag w.after t.sorted }
+    let w = shrunk c.args.self.now c.copy_within.new.self c.args.tag c.in-Ok.p c.in-Ok.ensures c.copy_within.ensures.after in
+    record { within = w.within; sorted = w.sorted }
 
-pub returns-in-Ok : goal.returns-in-Ok
-returns-in-Ok g c =
-    let t = c.args.self.now in
-    let w = shrunk t.slots.cells.now c.remove_in.new.s.cells.now t.len c.args.tag c.in-Ok.p t.within t.sorted c.in-Ok.ensures c.remove_in.ensures in
+pub returns : goal.returns
+returns g c =
+    let w = shrunk c.args.self.now c.copy_within.new.self c.args.tag c.in-Ok.p c.in-Ok.ensures c.copy_within.ensures.after in
     record { answer = w.answer; after = w.after; rest = w.rest; kept = w.kept }
-
-pub returns-in-Err : goal.returns-in-Err
-returns-in-Err g c =
-    let t = c.args.self.now in
-    let es = take t.len t.slots.cells.now in
-    let m = c.in-Err.ensures in
-    record { answer = sym (miss_there es c.args.tag _ m); after = sym (remove_none es c.args.tag (miss_apart es c.args.tag _ m)); rest = refl; kept = refl }
