@@ -25,7 +25,11 @@ pub(crate) struct Gap {
 fn order<V: Copy>(item: Record<V>, key: u64, version: u64) -> Ordering
     ensures { MatchOrdering result (tag item.key item.version < tag key version) ((item.key ≡ key) × (item.version ≡ version)) (tag key version < tag item.key item.version) }
 {
-    (item.version, item.key).cmp(&(version, key))
+    if item.version == version {
+        item.key.cmp(&key)
+    } else {
+        item.version.cmp(&version)
+    }
 }
 
 impl<'a, V: Copy> Chains<'a, V> {

@@ -27,20 +27,23 @@ pub fn call<S: VersionStore, C: CommitTable>(
     ensures { (database engine.new tables.new S.VersionStore store.new C.CommitTable commits.new, result)
         ≡ step (database engine.old tables.old S.VersionStore store.old C.CommitTable commits.old) call }
 {
+    let Tables { rows, conflicts } = tables;
     match call {
-        Call::Takeover { seat } => Answer::from(takeover(engine, tables, store, commits, seat)),
-        Call::Begin { seat } => Answer::from(begin(engine, tables, store, commits, seat)),
+        Call::Takeover { seat } => Answer::from(takeover(
+            engine, rows, conflicts, store, commits, seat,
+        )),
+        Call::Begin { seat } => Answer::from(begin(engine, rows, conflicts, store, commits, seat)),
         Call::Write { id, key, value } => Answer::from(write(
-            engine, tables, store, commits, id, key, value,
+            engine, rows, conflicts, store, commits, id, key, value,
         )),
         Call::Read { id, key } => Answer::from(read(engine, tables, store, commits, id, key)),
         Call::Validate { id, seat } => Answer::from(validate(
             engine, tables, store, commits, id, seat,
         )),
-        Call::Settle { id } => Answer::from(settle(engine, tables, store, commits, id)),
-        Call::Stamp { id } => Answer::from(stamp(engine, tables, store, commits, id)),
-        Call::Abandon { id } => Answer::from(abandon(engine, tables, store, commits, id)),
-        Call::Bury { id } => Answer::from(bury(engine, tables, store, commits, id)),
+        Call::Settle { id } => Answer::from(settle(engine, rows, conflicts, store, commits, id)),
+        Call::Stamp { id } => Answer::from(stamp(engine, rows, conflicts, store, commits, id)),
+        Call::Abandon { id } => Answer::from(abandon(engine, rows, conflicts, store, commits, id)),
+        Call::Bury { id } => Answer::from(bury(engine, rows, conflicts, store, commits, id)),
         Call::Raise { floor } => Answer::from(raise(engine, tables, store, commits, floor)),
         Call::Sweep { key } => Answer::Number(sweep(engine, tables, store, commits, key)),
         Call::FastRead { key } => Answer::from(fast_read(engine, tables, store, commits, key)),

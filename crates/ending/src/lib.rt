@@ -6,10 +6,11 @@ ghost use Rattle.std.specs.Prelude.{◌≡◌};
 ghost use Rattle.model.specs.declared.call.Call.TheVariants.{Abandon, Bury};
 ghost use Rattle.model.specs.Answers.{answer_of};
 ghost use Rattle.model.specs.Step.{step};
-ghost use Rattle.engine.specs.Meaning.{database};
+ghost use Rattle.engine.specs.Meaning.{lent, database};
 
 use commit_table::CommitTable;
-use engine::{Engine, Tables};
+use engine::{Engine, Rows};
+use manager::ConflictTables;
 use model::{Phase, Refusal};
 use version_store::VersionStore;
 use versions::stamping::{drop_pending_all, stamp_records};
@@ -17,16 +18,16 @@ use versions::stamping::{drop_pending_all, stamp_records};
 /// Drops the pending records, the commit entry and the row of a transaction that is not settled. It answers how many records went.
 pub fn abandon<S: VersionStore, C: CommitTable>(
     engine: &Engine,
-    tables: &mut Tables,
+    rows: &mut Rows,
+    conflicts: &ConflictTables,
     store: &mut S,
     commits: &mut C,
     id: u64,
 ) -> Result<u64, Refusal>
-    ensures step { (database engine.now tables.new S.VersionStore store.new C.CommitTable commits.new, answer_of result)
-        ≡ step (database engine.now tables.old S.VersionStore store.old C.CommitTable commits.old) (Abandon id) }
-    ensures conflicts { tables.new.conflicts ≡ tables.old.conflicts }
+    ensures { (database engine.now (lent rows.new conflicts.now) S.VersionStore store.new C.CommitTable commits.new, answer_of result)
+        ≡ step (database engine.now (lent rows.old conflicts.now) S.VersionStore store.old C.CommitTable commits.old) (Abandon id) }
 {
-    let Some(row) = tables.rows.find(id) else {
+    let Some(row) = rows.find(id) else {
         return Err(Refusal::NoRow { id });
     };
     if let Phase::Settled(_) = row.phase {
@@ -34,34 +35,34 @@ pub fn abandon<S: VersionStore, C: CommitTable>(
     }
     let dropped = drop_pending_all(store, id, row.keys.as_slice());
     commits.drop_entry(id);
-    tables.rows.remove(id);
+    rows.remove(id);
     Ok(dropped)
 }
 
 /// Ends a transaction below the fence: a settled one has its remaining keys stamped, any other is abandoned. It answers how many keys or records that touched.
 pub fn bury<S: VersionStore, C: CommitTable>(
     engine: &mut Engine,
-    tables: &mut Tables,
+    rows: &mut Rows,
+    conflicts: &ConflictTables,
     store: &mut S,
     commits: &mut C,
     id: u64,
 ) -> Result<u64, Refusal>
-    ensures step { (database engine.new tables.new S.VersionStore store.new C.CommitTable commits.new, answer_of result)
-        ≡ step (database engine.old tables.old S.VersionStore store.old C.CommitTable commits.old) (Bury id) }
-    ensures conflicts { tables.new.conflicts ≡ tables.old.conflicts }
+    ensures { (database engine.new (lent rows.new conflicts.now) S.VersionStore store.new C.CommitTable commits.new, answer_of result)
+        ≡ step (database engine.old (lent rows.old conflicts.now) S.VersionStore store.old C.CommitTable commits.old) (Bury id) }
 {
-    let Some(row) = tables.rows.find(id) else {
+    let Some(row) = rows.find(id) else {
         return Err(Refusal::NoRow { id });
     };
     if id >= engine.fence {
         return Err(Refusal::NotFenced { id });
     }
     let Phase::Settled(number) = row.phase else {
-        return abandon(engine, tables, store, commits, id);
+        return abandon(engine, rows, conflicts, store, commits, id);
     };
     let keys = row.keys_left();
     stamp_records(store, &mut engine.classes, id, number, keys);
     commits.drop_entry(id);
-    tables.rows.remove(id);
+    rows.remove(id);
     Ok(keys.len() as u64)
 }

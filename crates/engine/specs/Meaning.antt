@@ -8,12 +8,18 @@ use Rattle.model.specs.Numbers.{from_1_to}
 use Rattle.model.specs.State.{State}
 use Rattle.version_store.specs.declared.store.VersionStore as store
 use Rattle.commit_table.specs.declared.CommitTable as table
+use Rattle.manager.specs.declared.conflicts.ConflictTables.{ConflictTables}
 use Rattle.manager.specs.Conflicts.{conflicts_of}
 use Rattle.manager.specs.Meaning.{numbers, seats}
 use Rattle.versions.specs.Meaning.{numbers_of}
 use Rattle.engine.specs.declared.engine.Engine.{Engine}
+use Rattle.engine.specs.declared.rows.Rows.{Rows}
 use Rattle.engine.specs.declared.tables.Tables.{Tables}
 use Rattle.engine.specs.Transactions.{rows_of, places}
+
+-- what a host lends, as this row table and these conflict tables
+abbrev pub lent : Rows → ConflictTables → Tables
+lent r k = record { rows = r; conflicts = k }
 
 -- what a database is opened with: the first step, the span, and the places of what it is lent (the store has n, the commit table m)
 abbrev pub opening : ℕ → ℕ → Tables → ℕ → ℕ → Opening

@@ -1,22 +1,17 @@
 -- The least entry of a conflict table, found from the first entry on.
-use Rattle.std.proofs.Common.{◌≡◌, ℕ, ◌<◌, ◌≤◌, List, [], ◌∷◌, map, Some, None, Option, length, option_map, Ordering, Less, Equal, Greater, refl, ap, ◌∙◌, arith}
+use Rattle.std.proofs.Common.{◌≡◌, ℕ, ◌<◌, ◌≤◌, List, [], ◌∷◌, map, Some, None, Option, length, option_map, refl, ap, ◌∙◌, arith}
 use Rattle.std.proofs.lemmas.Bool.Decides.{nat_tests}
 use Rattle.std.proofs.lemmas.Iterator.{YieldsList}
 use Rattle.std.proofs.lemmas.Iterator.Consumers.{reduce_from_yields_List}
-use Rattle.std.specs.Fn.{CalledAt}
-use Rattle.std.specs.Iterator.{KeyTurn, PicksMinByKey}
+use Rattle.std.specs.Fn.{Called}
+use Rattle.std.specs.Iterator.{FoldTurn, ReducesItems}
 use denote.Param.Members.{Mut}
-use denote.Ref.{Bor}
 use Rattle.std.specs.List.{fold, reduce, FoldsTo}
-use Rattle.std.specs.Ordering.{nat_cmp, min_by_ordering}
 use Rattle.table.specs.declared.tagged.Entry.{Entry}
 use Rattle.model.specs.Maps.{look_up, remove, Above, Rising}
 use Rattle.model.specs.Managers.{lesser_of, least_entry}
 use Rattle.manager.specs.Memory.{pair_of}
-
--- of two entries the one of lesser number, and the first where they are equal
-abbrev pub lesser : Entry ℕ → Entry ℕ → Entry ℕ
-lesser c d = min_by_ordering (nat_cmp c.value d.value) c d
+use Rattle.manager.specs.Conflicts.{lesser}
 
 lesser_twice : (c d : Entry ℕ) (o : Option (ℕ × ℕ)) → lesser_of (pair_of c) (lesser_of (pair_of d) o) ≡ lesser_of (pair_of (lesser c d)) o
 lesser_twice c d None = grind (arith, nat_tests)
@@ -32,27 +27,18 @@ unfolding least_entry
 least_is [] = refl
 least_is (c ∷ es) = least_of c es
 
-value_of_lesser : (o : Ordering) (c d : Entry ℕ) → min_by_ordering o c.value d.value ≡ (min_by_ordering o c d).value
-value_of_lesser Less c d = refl
-value_of_lesser Equal c d = refl
-value_of_lesser Greater c d = refl
+-- a closure gives the lesser of two entries: what `reduce` makes by it
+module _ {F : Type 0} (g : Mut F (Entry ℕ × (Entry ℕ × Unit {0})) (Entry ℕ)) (f : F) (tells : (c d e : Entry ℕ) (h : F) → Called g f (c, (d, tt)) e h → (h ≡ f) × (e ≡ lesser c d)) where
+  turns : (es : List (Entry ℕ)) (h q : F) (c d : Entry ℕ) → h ≡ f → FoldsTo {P = F × Entry ℕ} (FoldTurn g) (h, c) es (q, d) → FoldsTo (λ x y z. z ≡ lesser x y) c es d
+  turns [] h q c d e r = ap (λ (p : F × Entry ℕ). p.1) r
+  turns (x ∷ es) h q c d e r =
+      let told = tells c x r.0.1 r.0.0 (rw e at r.1) in
+      (r.0.1, told.1, turns es r.0.0 q r.0.1 d told.0 r.2)
 
--- a closure tells the value of each entry: what `min_by_key` picks by it
-module _ {F : Type 0} (g : Mut F (Bor (Entry ℕ) × Unit {0}) ℕ) (f : F) (tells : (c : Entry ℕ) (n : ℕ) (h : F) → CalledAt g f c n h → (h ≡ f) × (n ≡ c.value)) where
-  turns : (es : List (Entry ℕ)) (h : F) (n : ℕ) (c d : Entry ℕ) (q : F × ℕ) → h ≡ f → n ≡ c.value →
-      FoldsTo {P = (F × ℕ) × Entry ℕ} (KeyTurn min_by_ordering min_by_ordering g nat_cmp) ((h, n), c) es (q, d) → FoldsTo (λ x y z. z ≡ lesser x y) c es d
-  turns [] h n c d q e k r = ap (λ (p : (F × ℕ) × Entry ℕ). p.1) r
-  turns (x ∷ es) h n c d q e k r =
-      let told = tells x r.1.0 r.0.0.0 (rw e at r.1.2) in
-      let value : r.0.0.1 ≡ r.0.1.value = cc (r.1.4, r.1.5, k, told.1, value_of_lesser r.1.1 c x) in
-      (r.0.1, cc (r.1.3, r.1.5, k, told.1), turns es r.0.0.0 r.0.0.1 r.0.1 d q told.0 value r.2)
-
-  pub least_from_picks : {S : Type 0} {steps : S → Option (Entry ℕ) → S → Type 0} {all : List (Entry ℕ)} (s : S) (r : Option (Entry ℕ)) →
-      PicksMinByKey steps g nat_cmp s f r → YieldsList steps (λ x. x) s all → r ≡ reduce lesser all
-  least_from_picks s None p y = reduce_from_yields_List lesser s None p y
-  least_from_picks s (Some d) p y =
-      let told = tells p.0 p.2 p.3 p.6 in
-      reduce_from_yields_List lesser s (Some d) (p.0, p.1, p.5, turns p.1 p.3 p.2 p.0 d p.4 told.0 told.1 p.7) y
+  pub least_from_reduces : {S : Type 0} {steps : S → Option (Entry ℕ) → S → Type 0} {all : List (Entry ℕ)} (s : S) (r : Option (Entry ℕ)) →
+      ReducesItems steps g s f r → YieldsList steps (λ x. x) s all → r ≡ reduce lesser all
+  least_from_reduces s None p y = reduce_from_yields_List lesser s None p y
+  least_from_reduces s (Some d) p y = reduce_from_yields_List lesser s (Some d) (p.0, p.1, p.3, turns p.1 f p.2 p.0 d refl p.4) y
 
 least_above : (l : List (ℕ × ℕ)) (k : ℕ) (e : ℕ × ℕ) → Above k l → least_entry l ≡ Some e → k < e.0
 unfolding least_entry

@@ -1,5 +1,6 @@
 -- The conflict tables of both seats.
-use Rattle.std.specs.Prelude.{ℕ, cond, List, ◌==◌}
+use Rattle.std.specs.Prelude.{ℕ, cond, List, ◌==◌, if◌then◌else◌, nat_lt}
+use Rattle.table.specs.declared.tagged.Entry.{Entry}
 use Rattle.table.specs.Meaning.{entries, capacity}
 use Rattle.manager.specs.declared.conflicts.ConflictTables.{ConflictTables}
 
@@ -23,3 +24,7 @@ places_at q c = cond (q == 0) c.places0 c.places1
 -- the table of the seat q has the entries l
 abbrev pub with_entries : ℕ → List (ℕ × ℕ) → Conflicts → Conflicts
 with_entries q l c = record { entries0 = cond (q == 0) l c.entries0; entries1 = cond (q == 0) c.entries1 l; places0 = c.places0; places1 = c.places1 }
+
+-- of two entries the one of lesser number, and the first where they are equal
+abbrev pub lesser : Entry ℕ → Entry ℕ → Entry ℕ
+lesser d e = if nat_lt e.value d.value then e else d

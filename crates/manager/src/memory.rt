@@ -2,9 +2,21 @@
 ghost use Rattle.std.specs.Prelude.{◌≡◌, ◌≤◌};
 ghost use Rattle.table.specs.Meaning.{entries, capacity};
 ghost use Rattle.model.specs.Managers.{conflict_table, enter_conflicts};
+ghost use Rattle.manager.specs.Conflicts.{lesser};
 
 use crate::conflicts::{Conflict, ConflictTables};
 use table::{Entry, Table};
+
+/// Of two entries the one of lesser number, and the first where they are equal.
+fn lesser(first: Conflict, next: Conflict) -> Conflict
+    ensures { result ≡ lesser first next }
+{
+    if next.value < first.value {
+        next
+    } else {
+        first
+    }
+}
 
 /// A conflict table that has a place, with the low that goes with it.
 #[derive(Drop)]
@@ -27,7 +39,7 @@ impl<'m, 'a> ConflictMemory<'m, 'a> {
             .as_slice()
             .iter()
             .copied()
-            .min_by_key(|entry| entry.value)
+            .reduce(|least, entry| lesser(least, entry))
     }
 
     /// Discards that entry.

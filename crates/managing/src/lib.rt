@@ -6,10 +6,11 @@ ghost use Rattle.std.specs.Prelude.{◌≡◌};
 ghost use Rattle.model.specs.declared.call.Call.TheVariants.{Takeover, Begin, Raise};
 ghost use Rattle.model.specs.Answers.{answer_of};
 ghost use Rattle.model.specs.Step.{step};
-ghost use Rattle.engine.specs.Meaning.{database};
+ghost use Rattle.engine.specs.Meaning.{lent, database};
 
 use commit_table::CommitTable;
-use engine::{Engine, Row, Tables};
+use engine::{Engine, Row, Rows, Tables};
+use manager::ConflictTables;
 use manager::steps::STEP;
 use model::Refusal;
 use version_store::VersionStore;
@@ -17,32 +18,32 @@ use version_store::VersionStore;
 /// The manager at the seat takes over: it begins a new span with an empty conflict table, and fences off everything before. It answers the number of its first step.
 pub fn takeover<S: VersionStore, C: CommitTable>(
     engine: &mut Engine,
-    tables: &mut Tables,
+    rows: &Rows,
+    conflicts: &mut ConflictTables,
     store: &S,
     commits: &C,
     seat: u64,
 ) -> Result<u64, Refusal>
-    ensures step { (database engine.new tables.new S.VersionStore store.now C.CommitTable commits.now, answer_of result)
-        ≡ step (database engine.old tables.old S.VersionStore store.now C.CommitTable commits.now) (Takeover seat) }
-    ensures rows { tables.new.rows ≡ tables.old.rows }
+    ensures { (database engine.new (lent rows.now conflicts.new) S.VersionStore store.now C.CommitTable commits.now, answer_of result)
+        ≡ step (database engine.old (lent rows.now conflicts.old) S.VersionStore store.now C.CommitTable commits.now) (Takeover seat) }
 {
     let low = engine.managers.takeover(seat)?;
     engine.fence = engine.fence.max(low);
-    tables.conflicts.clear(seat);
+    conflicts.clear(seat);
     Ok(low)
 }
 
 /// Begins a transaction at the next step of the seat, and answers its id.
 pub fn begin<S: VersionStore, C: CommitTable>(
     engine: &mut Engine,
-    tables: &mut Tables,
+    rows: &mut Rows,
+    conflicts: &ConflictTables,
     store: &S,
     commits: &C,
     seat: u64,
 ) -> Result<u64, Refusal>
-    ensures step { (database engine.new tables.new S.VersionStore store.now C.CommitTable commits.now, answer_of result)
-        ≡ step (database engine.old tables.old S.VersionStore store.now C.CommitTable commits.now) (Begin seat) }
-    ensures conflicts { tables.new.conflicts ≡ tables.old.conflicts }
+    ensures { (database engine.new (lent rows.new conflicts.now) S.VersionStore store.now C.CommitTable commits.now, answer_of result)
+        ≡ step (database engine.old (lent rows.old conflicts.now) S.VersionStore store.now C.CommitTable commits.now) (Begin seat) }
 {
     if seat > 1 {
         return Err(Refusal::OutsideLimits);
@@ -50,12 +51,12 @@ pub fn begin<S: VersionStore, C: CommitTable>(
     if engine.managers.is_vacant(seat) {
         return Err(Refusal::SeatVacant { seat });
     }
-    let used = tables.rows.len();
-    if used >= tables.rows.capacity() {
+    let used = rows.len();
+    if used >= rows.capacity() {
         return Err(Refusal::RowsFull { rows: used as u64 });
     }
     let id = engine.managers.take_step(seat)?;
-    tables.rows.put(Row::open(id));
+    rows.put(Row::open(id));
     Ok(id)
 }
 

@@ -1,4 +1,5 @@
 pub mod Newest
+pub mod Turns
 pub mod Parts
 pub mod LookUps
 pub mod VersionLists

@@ -7,11 +7,12 @@ ghost use Rattle.model.specs.declared.call.Call.TheVariants.{Settle, Stamp};
 ghost use Rattle.model.specs.Maps.{look_up};
 ghost use Rattle.model.specs.Answers.{answer_of};
 ghost use Rattle.model.specs.Step.{step};
-ghost use Rattle.engine.specs.Meaning.{database};
+ghost use Rattle.engine.specs.Meaning.{lent, database};
 ghost use Rattle.settling.specs.Committing.{committing, commit_at};
 
 use commit_table::{CommitTable, NotPlaced};
-use engine::{Engine, Row, Tables};
+use engine::{Engine, Row, Rows};
+use manager::ConflictTables;
 use model::{CommitEntry, Phase, Refusal};
 use version_store::VersionStore;
 use versions::stamping::stamp_record;
@@ -32,16 +33,16 @@ fn commit<C: CommitTable>(commits: &mut C, id: u64, number: u64) -> Result<(), R
 /// Commits a validated transaction: from its commit entry on it is committed. It answers the commit number.
 pub fn settle<S: VersionStore, C: CommitTable>(
     engine: &Engine,
-    tables: &mut Tables,
+    rows: &mut Rows,
+    conflicts: &ConflictTables,
     store: &S,
     commits: &mut C,
     id: u64,
 ) -> Result<u64, Refusal>
-    ensures step { (database engine.now tables.new S.VersionStore store.now C.CommitTable commits.new, answer_of result)
-        ≡ step (database engine.now tables.old S.VersionStore store.now C.CommitTable commits.old) (Settle id) }
-    ensures conflicts { tables.new.conflicts ≡ tables.old.conflicts }
+    ensures { (database engine.now (lent rows.new conflicts.now) S.VersionStore store.now C.CommitTable commits.new, answer_of result)
+        ≡ step (database engine.now (lent rows.old conflicts.now) S.VersionStore store.now C.CommitTable commits.old) (Settle id) }
 {
-    let Some(row) = tables.rows.find(id) else {
+    let Some(row) = rows.find(id) else {
         return Err(Refusal::NoRow { id });
     };
     let Phase::Validated(number) = row.phase else {
@@ -55,23 +56,23 @@ pub fn settle<S: VersionStore, C: CommitTable>(
         phase: Phase::Settled(number),
         ..row
     };
-    tables.rows.put(settled);
+    rows.put(settled);
     Ok(number)
 }
 
 /// Stamps the next key of a settled transaction, and answers how many keys are left. With the last one its commit entry and its row go.
 pub fn stamp<S: VersionStore, C: CommitTable>(
     engine: &mut Engine,
-    tables: &mut Tables,
+    rows: &mut Rows,
+    conflicts: &ConflictTables,
     store: &mut S,
     commits: &mut C,
     id: u64,
 ) -> Result<u64, Refusal>
-    ensures step { (database engine.new tables.new S.VersionStore store.new C.CommitTable commits.new, answer_of result)
-        ≡ step (database engine.old tables.old S.VersionStore store.old C.CommitTable commits.old) (Stamp id) }
-    ensures conflicts { tables.new.conflicts ≡ tables.old.conflicts }
+    ensures { (database engine.new (lent rows.new conflicts.now) S.VersionStore store.new C.CommitTable commits.new, answer_of result)
+        ≡ step (database engine.old (lent rows.old conflicts.now) S.VersionStore store.old C.CommitTable commits.old) (Stamp id) }
 {
-    let Some(row) = tables.rows.find(id) else {
+    let Some(row) = rows.find(id) else {
         return Err(Refusal::NoRow { id });
     };
     let Phase::Settled(number) = row.phase else {
@@ -81,19 +82,19 @@ pub fn stamp<S: VersionStore, C: CommitTable>(
     let left = keys.len();
     if left == 0 {
         commits.drop_entry(id);
-        tables.rows.remove(id);
+        rows.remove(id);
         return Ok(0);
     }
     stamp_record(store, &mut engine.classes, keys[0], id, number);
     if left == 1 {
         commits.drop_entry(id);
-        tables.rows.remove(id);
+        rows.remove(id);
         return Ok(0);
     }
     let stamped = Row {
         stamped: row.stamped + 1,
         ..row
     };
-    tables.rows.put(stamped);
+    rows.put(stamped);
     Ok((left - 1) as u64)
 }

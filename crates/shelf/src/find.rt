@@ -30,7 +30,8 @@ impl<'a, V: Copy> Shelf<'a, V> {
         ensures { result ≡ standing_of key version (slice_get self.now.records.now place) }
     {
         match self.records.get(usize::from(place)) {
-            Some(r) => (r.key, r.version).cmp(&(key, version)),
+            Some(r) if r.key == key => r.version.cmp(&version),
+            Some(r) => r.key.cmp(&key),
             None => Ordering::Less,
         }
     }

@@ -17,7 +17,7 @@ pub trait Tagged: Copy {
 }
 
 /// An entry that is a tag and a value.
-#[derive(Clone, Copy, PartialEq, Eq, Debug)]
+#[derive(Clone, Copy, PartialEq, Eq, Debug, Drop)]
 pub struct Entry<V> {
     pub tag: u64,
     pub value: V,

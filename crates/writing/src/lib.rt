@@ -5,10 +5,11 @@ ghost use Rattle.std.specs.Prelude.{◌≡◌};
 ghost use Rattle.model.specs.declared.call.Call.TheVariants.{Write};
 ghost use Rattle.model.specs.Answers.{answer_of};
 ghost use Rattle.model.specs.Step.{step};
-ghost use Rattle.engine.specs.Meaning.{database};
+ghost use Rattle.engine.specs.Meaning.{lent, database};
 
 use commit_table::CommitTable;
-use engine::{Engine, Row, Tables};
+use engine::{Engine, Row, Rows};
+use manager::ConflictTables;
 use model::{Phase, Record, Refusal};
 use version_store::VersionStore;
 use versions::questions::summary;
@@ -16,18 +17,18 @@ use versions::questions::summary;
 /// Puts a pending record of the value at the transaction's version, or replaces the value of the one there. Answers how many keys the transaction holds.
 pub fn write<S: VersionStore, C: CommitTable>(
     engine: &Engine,
-    tables: &mut Tables,
+    rows: &mut Rows,
+    conflicts: &ConflictTables,
     store: &mut S,
     commits: &C,
     id: u64,
     key: u64,
     value: S::Value,
 ) -> Result<u64, Refusal>
-    ensures step { (database engine.now tables.new S.VersionStore store.new C.CommitTable commits.now, answer_of result)
-        ≡ step (database engine.now tables.old S.VersionStore store.old C.CommitTable commits.now) (Write id key value) }
-    ensures conflicts { tables.new.conflicts ≡ tables.old.conflicts }
+    ensures { (database engine.now (lent rows.new conflicts.now) S.VersionStore store.new C.CommitTable commits.now, answer_of result)
+        ≡ step (database engine.now (lent rows.old conflicts.now) S.VersionStore store.old C.CommitTable commits.now) (Write id key value) }
 {
-    let Some(found) = tables.rows.find(id) else {
+    let Some(found) = rows.find(id) else {
         return Err(Refusal::NoRow { id });
     };
     let Phase::Open = found.phase else {
@@ -52,6 +53,6 @@ pub fn write<S: VersionStore, C: CommitTable>(
     let Ok(()) = store.put(&item) else {
         return Err(Refusal::StoreFull { key });
     };
-    tables.rows.put(Row { keys, ..found });
+    rows.put(Row { keys, ..found });
     Ok(keys.as_slice().len() as u64)
 }

@@ -2,25 +2,25 @@ use Rattle.std.proofs.Common.{length, sym, refl, ap, ◌∙◌}
 use Rattle.model.specs.declared.call.Answer.TheVariants.{Number}
 use Rattle.model.specs.Stamping.{row_gone, stamp_records}
 use Rattle.versions.specs.Meaning.{numbers_of, with_versions}
-use Rattle.engine.specs.Meaning.{database}
+use Rattle.engine.specs.Meaning.{lent, database}
 use Rattle.engine.proofs.Agreement.{same, same_sizes}
 use Rattle.ending.proofs.Exits.{bury_no_row, bury_above, bury_unsettled, bury_settled}
 use Rattle.ending.proofs.bury.Goals as goal
 
-pub returns-in_default-clause-step : goal.returns-in_default-clause-step
-returns-in_default-clause-step g c = sym (bury_no_row _ c.args.id c.in_default.ensures.row)
+pub returns-in_default : goal.returns-in_default
+returns-in_default g c = sym (bury_no_row _ c.args.id c.in_default.ensures.row)
 
-pub returns-then-id-engine-clause-step : goal.returns-then-id-engine-clause-step
-returns-then-id-engine-clause-step g c = sym (bury_above _ c.args.id _ _ _ c.in-Some.ensures.row c.if-id-engine.true)
+pub returns-then-id-engine : goal.returns-then-id-engine
+returns-then-id-engine g c = sym (bury_above _ c.args.id _ _ _ c.in-Some.ensures.row c.if-id-engine.true)
 
-pub returns-in_default-phase-clause-step : goal.returns-in_default-phase-clause-step
-returns-in_default-phase-clause-step g c = c.abandon.ensures.step ∙ sym (bury_unsettled _ c.args.id _ _ _ c.in-Some.ensures.row c.if-id-engine.false c.in_default-phase.not-Settled)
+pub returns-in_default-phase : goal.returns-in_default-phase
+returns-in_default-phase g c = c.abandon.ensures ∙ sym (bury_unsettled _ c.args.id _ _ _ c.in-Some.ensures.row c.if-id-engine.false c.in_default-phase.not-Settled)
 
-pub returns-clause-step : goal.returns-clause-step
-returns-clause-step g c =
+pub returns : goal.returns
+returns g c =
     let S = g.S.VersionStore in
     let C = g.C.CommitTable in
-    let s = database c.args.engine.now c.args.tables.now S c.args.store.now C c.args.commits.now in
+    let s = database c.args.engine.now (lent c.args.rows.now c.args.conflicts.now) S c.args.store.now C c.args.commits.now in
     let id = c.args.id in
     let n = c.in-Settled.number in
     let l = c.keys_left-keys.result.now in

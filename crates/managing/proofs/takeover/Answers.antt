@@ -9,20 +9,20 @@ use Rattle.engine.proofs.Agreement.{same, same_sizes}
 use Rattle.managing.proofs.Exits.{takeover_err, takeover_ok}
 use Rattle.managing.proofs.takeover.Goals as goal
 
-pub returns-in_err-low-clause-step : goal.returns-in_err-low-clause-step
-returns-in_err-low-clause-step g c =
+pub returns-in_err-low : goal.returns-in_err-low
+returns-in_err-low g c =
     let p = numbers c.args.engine.now.managers in
-    let k = conflicts_of c.args.tables.now.conflicts in
+    let k = conflicts_of c.args.conflicts.now in
     let e = err_from_is_err_and c.from_residual.result c.from_residual.ensures.1 in
     let d = takeover_err _ c.args.seat p _ refl refl c.in_err-low.field-0.0 c.in_err-low.ensures in
     same _ _ _ _ (ap (λ (q : Numbers). q.cell) d.same) refl refl refl (ap (λ (q : Numbers). seats q k) d.same) (ap (λ (q : Numbers). q.charge) d.same) refl refl refl
     (same_sizes _ _ _ _ _ _ _ _ _ _ _ _ _ (ap (λ (q : Numbers). q.span) d.same) refl refl refl refl refl) (ap answer_of (e.1 ∙ ap Err e.2))
     ∙ sym d.exit
 
-pub returns-clause-step : goal.returns-clause-step
-returns-clause-step g c =
+pub returns : goal.returns
+returns g c =
     let p = numbers c.args.engine.now.managers in
-    let k = conflicts_of c.args.tables.now.conflicts in
+    let k = conflicts_of c.args.conflicts.now in
     let d = takeover_ok _ c.args.seat p _ refl refl c.in_ok-low.low c.in_ok-low.ensures in
     same _ _ _ _ (ap (λ (q : Numbers). q.cell) d.is) (c.max-engine.ensures ∙ ap (λ n. max c.args.engine.now.fence n) d.number) refl refl
     (ap (seats (numbers c.takeover.new.self)) c.clear.ensures ∙ taken_seats c.args.seat p _ k d.seat d.is)
