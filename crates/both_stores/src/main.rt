@@ -4,9 +4,9 @@
 
 mod task;
 
-use chains::{Chains, Node};
+use chains::{ChainsMemory, Node};
 use model::{PriceCard, Record, Refusal};
-use shelf::Shelf;
+use shelf::ShelfMemory;
 use std::alloc::{AllocError, Global};
 use std::{fmt, io};
 use task::run;
@@ -60,10 +60,10 @@ fn on_both<V: Copy + fmt::Debug>(
     let mut records = vec![in heap; unused; places]?;
     let mut index = vec![in heap; 0u16; places]?;
     let mut nodes = vec![in heap; Node::blank(); places]?;
-    let shelf = Shelf::over(records.as_mut_slice(), index.as_mut_slice());
-    let on_shelf = written(heap, shelf, values)?;
-    let chains = Chains::over(nodes.as_mut_slice());
-    let on_chains = written(heap, chains, values)?;
+    let shelf = ShelfMemory::lent(records.as_mut_slice(), index.as_mut_slice());
+    let on_shelf = written(heap, shelf.map(|memory| memory.shelf()), values)?;
+    let chains = ChainsMemory::lent(nodes.as_mut_slice());
+    let on_chains = written(heap, chains.map(|memory| memory.chains()), values)?;
     compare(rt, title, places, on_shelf.as_str(), on_chains.as_str())
 }
 

@@ -2,10 +2,12 @@
 #![tactic(auto)]
 
 pub mod chains;
+pub mod memory;
 pub mod node;
 mod relink;
 mod store;
 mod walk;
 
 pub use chains::Chains;
+pub use memory::ChainsMemory;
 pub use node::Node;

@@ -4,15 +4,15 @@ ghost use Rattle.model.specs.Records.{count};
 ghost use Rattle.host.specs.Running.{with_places, Answered};
 
 use crate::error::HostError;
-use chains::{Chains, Node};
+use chains::{ChainsMemory, Node};
 use commit_table::CommitTable;
 use database::run;
 use engine::{Row, Rows, Tables};
 use manager::ConflictTables;
 use model::{Answer, Call, CommitEntry, Opening, Record};
-use shelf::Shelf;
+use shelf::ShelfMemory;
 use std::alloc::Global;
-use strip::{ENTRY, HEADER, Strip};
+use strip::{ENTRY, HEADER, StripMemory};
 use table::{Entry, Sheet, Table};
 use version_store::VersionStore;
 
@@ -95,7 +95,7 @@ fn with_commits<S: VersionStore>(
             let mut bytes = vec![in heap; 0u8; HEADER.saturating_add(
                 opening.entries.saturating_mul(ENTRY)
             )]?;
-            let mut strip = Strip::over(bytes.as_mut_slice())?;
+            let mut strip = StripMemory::check(bytes.as_mut_slice())?.strip();
             with_tables(heap, opening, store, &mut strip, calls)
         }
     }
@@ -122,12 +122,13 @@ pub fn run_on<V: Copy>(
         StoreKind::Shelf => {
             let mut records = vec![in heap; unused; opening.records]?;
             let mut index = vec![in heap; 0u16; opening.records]?;
-            let mut shelf = Shelf::over(records.as_mut_slice(), index.as_mut_slice())?;
+            let memory = ShelfMemory::lent(records.as_mut_slice(), index.as_mut_slice())?;
+            let mut shelf = memory.shelf();
             with_commits(heap, commits, opening, &mut shelf, calls)
         }
         StoreKind::Chains => {
             let mut nodes = vec![in heap; Node::blank(); opening.records]?;
-            let mut chains = Chains::over(nodes.as_mut_slice())?;
+            let mut chains = ChainsMemory::lent(nodes.as_mut_slice())?.chains();
             with_commits(heap, commits, opening, &mut chains, calls)
         }
     }

@@ -9,7 +9,7 @@ use commit_table::CommitTable;
 use model::CommitEntry;
 use std::io;
 use strip::making::capacity_of;
-use strip::{ENTRY, HEADER, Strip};
+use strip::{ENTRY, HEADER, StripMemory};
 use table::{Entry, Sheet};
 use text::{Dropped, Found, Placed};
 
@@ -115,8 +115,8 @@ fn main(rt: HostRuntime) -> io::Result<()> {
         Ok(sheet) => sheet,
         Err(refusal) => return println!(rt; "sheet: refusal {refusal}"),
     };
-    let strip = match Strip::over(&mut bytes) {
-        Ok(strip) => strip,
+    let strip = match StripMemory::check(&mut bytes) {
+        Ok(memory) => memory.strip(),
         Err(refusal) => return println!(rt; "strip: refusal {refusal}"),
     };
     let mut both = Both::over(sheet, strip);

@@ -2,7 +2,9 @@
 #![tactic(auto)]
 
 mod find;
+pub mod memory;
 pub mod shelf;
 pub mod store;
 
+pub use memory::ShelfMemory;
 pub use shelf::Shelf;

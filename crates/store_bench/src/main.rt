@@ -4,9 +4,9 @@
 
 mod work;
 
-use chains::{Chains, Node};
+use chains::{ChainsMemory, Node};
 use model::{Record, Refusal};
-use shelf::Shelf;
+use shelf::ShelfMemory;
 use std::{env, io};
 use version_store::VersionStore;
 use work::{Measured, measure};
@@ -74,10 +74,10 @@ fn at_size(rt: &HostRuntime, size: usize, rounds: Option<u64>) -> io::Result<Pai
     let mut records = vec![in heap; unused; size]?;
     let mut index = vec![in heap; 0u16; size]?;
     let mut nodes = vec![in heap; Node::blank(); size]?;
-    let shelf = Shelf::over(records.as_mut_slice(), index.as_mut_slice());
-    let shelf = measured(rt, shelf, rounds)?;
-    let chains = Chains::over(nodes.as_mut_slice());
-    let chains = measured(rt, chains, rounds)?;
+    let shelf = ShelfMemory::lent(records.as_mut_slice(), index.as_mut_slice());
+    let shelf = measured(rt, shelf.map(|memory| memory.shelf()), rounds)?;
+    let chains = ChainsMemory::lent(nodes.as_mut_slice());
+    let chains = measured(rt, chains.map(|memory| memory.chains()), rounds)?;
     Ok(Pair { shelf, chains })
 }
 

@@ -5,7 +5,9 @@ mod bytes;
 pub mod calls;
 pub mod laws;
 pub mod making;
+pub mod memory;
 pub mod strip;
 
 pub use bytes::{ENTRY, HEADER};
+pub use memory::StripMemory;
 pub use strip::Strip;

@@ -1,11 +1,8 @@
-//! Making a strip over lent bytes.
-ghost use Rattle.std.specs.Prelude.{◌≡◌, [], length, IfOk};
-ghost use Rattle.std.specs.Result.{result_map_both};
-ghost use Rattle.strip.specs.Layout.{strip_bytes};
-ghost use Rattle.strip.specs.Meaning.{capacity_for, bytes_of, body_of, strip_capacity, made_bytes};
+//! Laying out bytes for a strip.
+ghost use Rattle.std.specs.Prelude.{◌≡◌, length};
+ghost use Rattle.strip.specs.Meaning.{capacity_for, made_bytes};
 
 use crate::bytes::{ENTRY, HEADER, MOST_ENTRIES, header_bytes, write_at};
-use crate::strip::Strip;
 use model::Refusal;
 
 /// How many entries so many bytes have room for.
@@ -29,20 +26,4 @@ pub fn lay_out(bytes: &mut [u8]) -> Result<usize, Refusal>
     bytes.fill(0);
     write_at(bytes, 0, &header_bytes(capacity, 0));
     Ok(capacity)
-}
-
-impl<'a> Strip<'a> {
-    /// An empty strip over bytes for a whole number of entries, 1 to 2,000, which become a header and zeros; any others are refused.
-    pub fn over(bytes: &'a mut [u8]) -> Result<Strip<'a>, Refusal>
-        ensures answer { result_map_both strip_capacity (λ e. e) result ≡ capacity_for (length bytes.old) }
-        ensures bytes { IfOk result (λ s. bytes_of s ≡ strip_bytes (strip_capacity s) []) }
-        ensures empty { IfOk result (λ s. body_of s ≡ []) }
-    {
-        let capacity = lay_out(bytes)?;
-        Ok(Strip {
-            bytes,
-            capacity,
-            count: 0,
-        })
-    }
 }

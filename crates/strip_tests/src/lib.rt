@@ -7,16 +7,17 @@ mod tests {
     use model::CommitEntry;
     use std::process::Abort;
     use std::test::Fail;
-    use strip::Strip;
+    use strip::StripMemory;
     use strip::making::lay_out;
     use table::{Entry, Sheet};
 
     #[test]
     fn bytes_after_place_and_drop(rt: HostRuntime) -> Result<(), Fail> {
         let mut bytes = [0xff; 88];
-        let Ok(mut strip) = Strip::over(&mut bytes) else {
+        let Ok(memory) = StripMemory::check(&mut bytes) else {
             return Err(Fail::new("88 bytes were refused"));
         };
+        let mut strip = memory.strip();
         assert_eq!(rt;
             strip.place(0x0102030405060708, CommitEntry::Committed(258)),
             Ok(())
@@ -56,9 +57,10 @@ mod tests {
     #[test]
     fn two_thousand_on_a_strip(rt: HostRuntime) -> Result<(), Fail> {
         let mut bytes = [0; 48016];
-        let Ok(mut strip) = Strip::over(&mut bytes) else {
+        let Ok(memory) = StripMemory::check(&mut bytes) else {
             return Err(Fail::new("48,016 bytes were refused"));
         };
+        let mut strip = memory.strip();
         fill(&rt, &mut strip);
         Ok(())
     }

@@ -1,6 +1,6 @@
 use Rattle.std.proofs.Common.{refl, arith}
 use Rattle.chains.proofs.Calling.{free_more, cleared}
-use Rattle.chains.proofs.chains.Chains.over.Goals as goal
+use Rattle.chains.proofs.memory.ChainsMemory.chains.Goals as goal
 
 pub loop-i-preserved : goal.loop-i-preserved
 loop-i-preserved g c = let more = free_more c.loop-i.nodes c.loop-i.i _ (omega arith) refl refl c.loop-i.invariant.all c.loop-i.invariant.freed in record { all = more.0; freed = more.1 }
