@@ -1,12 +1,27 @@
 //! Binary search by key and version.
-ghost use Rattle.std.specs.Prelude.{◌≡◌, ◌<◌, length, MatchResult, slice_index, slice_index_or};
+ghost use Rattle.std.specs.Prelude.{◌≡◌, ◌+◌, ◌*◌, ◌<◌, length, MatchResult, slice_index, slice_index_or};
 ghost use Rattle.std.specs.List.{slice_get};
 ghost use Rattle.shelf.specs.Meaning.{shelved};
-ghost use Rattle.shelf.specs.Search.{standing_of, Hit, Miss};
+ghost use Rattle.shelf.specs.Search.{standing, standing_of, Hit, Miss};
 
 use crate::shelf::Shelf;
 use model::Record;
 use std::cmp::Ordering;
+
+/// Key and version as one number, in whose order they stand: a search then has one test a step, and no branch within it.
+fn joined(key: u64, version: u64) -> u128
+    ensures number { result ≡ key * 18446744073709551616 + version }
+    ensures low { version < 18446744073709551616 }
+{
+    u128::from(key) * 18446744073709551616 + u128::from(version)
+}
+
+/// How the record stands to that key and version.
+fn order<V: Copy>(r: &Record<V>, key: u64, version: u64) -> Ordering
+    ensures { result ≡ standing key version r.now }
+{
+    joined(r.key, r.version).cmp(&joined(key, version))
+}
 
 impl<'a, V: Copy> Shelf<'a, V> {
     /// The place that the index names at i.
@@ -30,8 +45,7 @@ impl<'a, V: Copy> Shelf<'a, V> {
         ensures { result ≡ standing_of key version (slice_get self.now.records.now place) }
     {
         match self.records.get(usize::from(place)) {
-            Some(r) if r.key == key => r.version.cmp(&version),
-            Some(r) => r.key.cmp(&key),
+            Some(r) => order(r, key, version),
             None => Ordering::Less,
         }
     }
