@@ -1,11 +1,11 @@
 -- Records in order around a place: what is found there, and what each change leaves. Assumes nothing.
-use Rattle.std.proofs.Common.{◌≡◌, ℕ, zero, suc, ◌+◌, ◌*◌, ◌<◌, ◌≤◌, Bool, true, false, cond, ◌&&◌, eqb, leb, List, [], ◌∷◌, length, get_or, set, Some, None, Ok, sym, refl, ap, ◌∙◌, ⊎_elim, arith}
+use Rattle.std.proofs.Common.{◌≡◌, ℕ, zero, suc, ◌+◌, ◌<◌, ◌≤◌, Bool, true, false, cond, ◌&&◌, eqb, leb, List, [], ◌∷◌, length, get_or, set, Some, None, Ok, sym, refl, ap, ◌∙◌, ⊎_elim, arith}
 use Rattle.std.proofs.lemmas.Bool.{cases_lt}
 use Rattle.std.proofs.lemmas.Bool.Decides.{nat_tests}
 use Rattle.std.specs.Bool.{then_some}
 use Rattle.std.specs.List.{insert, remove, AllWithin}
 use Rattle.std.specs.List.Sorted.{IsNonDecreasingBy}
-use Rattle.std.specs.Ordering.{nat_cmp, ordering_index}
+use Rattle.std.specs.Ordering.{ordering_index}
 use Rattle.std.specs.declared.cmp.Ordering.TheVariants.{Less, Equal, Greater}
 use Rattle.model.specs.declared.words.Record.{Record}
 use Rattle.model.specs.Maps.{is_there}
@@ -25,11 +25,6 @@ module _ {V : Type 0} where
 
   greater : (k v : ℕ) (r : Record V) → standing k v r ≡ Greater → before k v r ≡ true
   greater k v r h = grind (arith, nat_tests)
-
-  -- key and version as one number stand as the two do
-  pub joined_order : (k v : ℕ) (r : Record V) → r.version < 18446744073709551616 → v < 18446744073709551616 →
-      nat_cmp (r.key * 18446744073709551616 + r.version) (k * 18446744073709551616 + v) ≡ standing k v r
-  joined_order k v r h g = grind (arith, nat_tests)
 
   -- what stands after r is behind it
   after_at : (r : Record V) (l : List (Record V)) (i : ℕ) (d : Record V) → After r l → i < length l → before r.key r.version (get_or l i d) ≡ true

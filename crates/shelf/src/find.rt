@@ -8,7 +8,7 @@ use crate::shelf::Shelf;
 use model::Record;
 use std::cmp::Ordering;
 
-/// Key and version as one number, in whose order they stand: a search then has one test a step, and no branch within it.
+/// Key and version as one number, in whose order they stand.
 fn joined(key: u64, version: u64) -> u128
     ensures number { result ≡ key * 18446744073709551616 + version }
     ensures low { version < 18446744073709551616 }
@@ -16,11 +16,19 @@ fn joined(key: u64, version: u64) -> u128
     u128::from(key) * 18446744073709551616 + u128::from(version)
 }
 
-/// How the record stands to that key and version.
+/// How the record stands to that key and version. A search asks at each step whether it is greater, so that is told by one test.
 fn order<V: Copy>(r: &Record<V>, key: u64, version: u64) -> Ordering
     ensures { result ≡ standing key version r.now }
 {
-    joined(r.key, r.version).cmp(&joined(key, version))
+    let found = joined(r.key, r.version);
+    let wanted = joined(key, version);
+    if found > wanted {
+        Ordering::Greater
+    } else if found == wanted {
+        Ordering::Equal
+    } else {
+        Ordering::Less
+    }
 }
 
 impl<'a, V: Copy> Shelf<'a, V> {
